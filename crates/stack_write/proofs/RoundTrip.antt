@@ -1,0 +1,231 @@
+-- Writing what was read gives the same file; reading what was written gives the same components; a stack has one file.
+use Prim.Native.Nat.{ℕ, zero, suc, _+_, _*_, _<_, _≤_}
+use mathlib.Core.Path.{_≡_, refl, ap, sym, _∙_}
+use mathlib.Core.List.{List, [], _∷_, map}
+use mathlib.Core.Bool.{Bool, true, false, not, _&&_}
+use native.Mathlib.Omega.{arith}
+use lib.ListN.{length, drop, getD, List·getD-map}
+use lib.Seq.{getD-drop, ext-getD}
+use lib.Dec.{eqb, leb, ltb}
+use borrow.Author.Tests.{eqb-true, leb-true, le-ltb, eq-eqb, not-false}
+use Rattle.terms.specs.declared.Component.{Component}
+use Rattle.terms.specs.declared.Kind.{Kind}
+use Rattle.terms.specs.declared.Kind.the-variants.{Apart}
+use Rattle.terms.specs.Answer.{result, refuseIf}
+use Rattle.stack_write.specs.Call.{writeOf}
+use Rattle.terms.specs.Component.{inSize, goodSize, goodGap, ends, every, mostOf, stackOf, tabulate, componentIn, componentsIn}
+use Rattle.stack.specs.File.{wordAt, componentFrom, componentAt, componentsOf, headerOf, checkOf}
+use Rattle.stack_write.specs.File.{low, high, bytesOf, fileOf}
+use Rattle.terms.proofs.Tabulate.{tabulate-length, tabulate-at, tabulate-front, tabulate-same, tabulate-map}
+use Rattle.terms.proofs.Answers.{stack-is, stack-of, most-256, passed, went-on}
+use Rattle.stack.proofs.Valid.{Header, valid}
+use Rattle.stack.proofs.Columns.{Bytes}
+use Rattle.stack_write.proofs.Writing.{bytes-length}
+
+pub both : (a b : Bool) → (a && b) ≡ true → (a ≡ true) × (b ≡ true)
+both true b e = (refl, e)
+both false b e = let z : _≡_ {A = ℕ} 0 1 = cc in absurd (omega arith)
+
+-- The bytes behind the header, read by themselves.
+abbrev bodyAt : List ℕ → ℕ → Component
+bodyAt body i = componentFrom body (6 * i)
+
+shift : (k : ℕ) (file : List ℕ) (at : ℕ) → componentFrom file (k + at) ≡ componentFrom (drop k file) at
+shift k file at =
+    let e0 : (j : ℕ) → getD file (k + at + j) 0 ≡ getD (drop k file) (at + j) 0 = λ j. rw (getD-drop k file (at + j) 0) (ap (λ (i : ℕ). getD file i 0) (omega arith)) in
+    let e1 : (j : ℕ) → getD file (k + at + j + 1) 0 ≡ getD (drop k file) (at + j + 1) 0 = λ j. rw (getD-drop k file (at + j + 1) 0) (ap (λ (i : ℕ). getD file i 0) (omega arith)) in
+    rw (getD-drop k file at 0, getD-drop k file (at + 1) 0, e0 2, e1 2, e0 4, e1 4)
+    (ap (λ (i : ℕ). record { height = record { 0 = getD file (k + at) 0 + 256 * getD file i 0 }; width = componentFrom (drop k file) at .width; gap = componentFrom (drop k file) at .gap }) (omega arith))
+
+front : (body : List ℕ) (n : ℕ) → tabulate (bodyAt body) (suc n) ≡ componentFrom body 0 ∷ tabulate (bodyAt (drop 6 body)) n
+front body n =
+    tabulate-front (bodyAt body) n
+    ∙ ap (λ (l : List Component). componentFrom body 0 ∷ l)
+    (tabulate-same (λ i. bodyAt body (suc i)) (bodyAt (drop 6 body)) n
+    (λ i l. let e : 6 * suc i ≡ 6 + 6 * i = omega arith in rw e (shift 6 body (6 * i))))
+
+behind : (file : List ℕ) (n : ℕ) → componentsOf file n ≡ tabulate (bodyAt (drop 7 file)) n
+behind file n = tabulate-same (componentAt file) (bodyAt (drop 7 file)) n (λ i l. shift 7 file (6 * i))
+
+-- A file from its components.
+bytes-drop : (k : ℕ) (file : List ℕ) → Bytes file → Bytes (drop k file)
+bytes-drop k file h i = rw (getD-drop k file i 0) (h (k + i))
+
+low-of : (a b : ℕ) → a < 256 → low (a + 256 * b) ≡ a
+low-of a b h = omega arith
+
+high-of : (a b : ℕ) → a < 256 → b < 256 → high (a + 256 * b) ≡ b
+high-of a b h g = omega arith
+
+body-back : (body : List ℕ) (n : ℕ) → length body ≡ 6 * n → Bytes body → bytesOf (tabulate (bodyAt body) n) ≡ body
+unfolding bytesOf tabulate
+body-back [] zero e h = refl
+body-back (x ∷ body) zero e h = absurd (omega arith)
+body-back [] (suc n) e h = absurd (omega arith)
+body-back (a ∷ []) (suc n) e h = absurd (omega arith)
+body-back (a ∷ b ∷ []) (suc n) e h = absurd (omega arith)
+body-back (a ∷ b ∷ c ∷ []) (suc n) e h = absurd (omega arith)
+body-back (a ∷ b ∷ c ∷ d ∷ []) (suc n) e h = absurd (omega arith)
+body-back (a ∷ b ∷ c ∷ d ∷ x ∷ []) (suc n) e h = absurd (omega arith)
+body-back (a ∷ b ∷ c ∷ d ∷ x ∷ y ∷ body) (suc n) e h =
+    let l = a ∷ b ∷ c ∷ d ∷ x ∷ y ∷ body in
+    rw (
+      front l n,
+      low-of a b (h 0),
+      high-of a b (h 0) (h 1),
+      low-of c d (h 2),
+      high-of c d (h 2) (h 3),
+      low-of x y (h 4),
+      high-of x y (h 4) (h 5),
+      body-back body n (omega arith) (bytes-drop 6 l h),
+    )
+
+file-back : (file : List ℕ) (cs : List Component) → Header file (length cs) → componentsOf file (length cs) ≡ cs → Bytes file → fileOf cs ≡ file
+file-back [] cs v k h = absurd (omega (arith, v .size))
+file-back (a ∷ []) cs v k h = absurd (omega (arith, v .size))
+file-back (a ∷ b ∷ []) cs v k h = absurd (omega (arith, v .size))
+file-back (a ∷ b ∷ c ∷ []) cs v k h = absurd (omega (arith, v .size))
+file-back (a ∷ b ∷ c ∷ d ∷ []) cs v k h = absurd (omega (arith, v .size))
+file-back (a ∷ b ∷ c ∷ d ∷ e ∷ []) cs v k h = absurd (omega (arith, v .size))
+file-back (a ∷ b ∷ c ∷ d ∷ e ∷ x ∷ []) cs v k h = absurd (omega (arith, v .size))
+file-back (a ∷ b ∷ c ∷ d ∷ e ∷ x ∷ y ∷ body) cs v k h =
+    let l = a ∷ b ∷ c ∷ d ∷ e ∷ x ∷ y ∷ body in
+    let s = both (eqb a 83 && eqb b 84) (eqb c 75) (v .letters-stand) in
+    let t = both (eqb a 83) (eqb b 84) (s .0) in
+    let e0 : 83 ≡ a = sym (eqb-true a 83 (t .0)) in
+    let e1 : 84 ≡ b = sym (eqb-true b 84 (t .1)) in
+    let e2 : 75 ≡ c = sym (eqb-true c 75 (s .1)) in
+    let e3 : 1 ≡ d = omega (arith, v .version, h 3, h 4) in
+    let e4 : 0 ≡ e = omega (arith, v .version, h 3, h 4) in
+    let e5 : low (length cs) ≡ x = ap low (sym (v .count)) ∙ low-of x y (h 5) in
+    let e6 : high (length cs) ≡ y = ap high (sym (v .count)) ∙ high-of x y (h 5) (h 6) in
+    let e7 : bytesOf cs ≡ body = ap bytesOf (sym k) ∙ ap bytesOf (behind l (length cs)) ∙ body-back body (length cs) (omega (arith, v .size)) (bytes-drop 7 l h) in
+    cc
+
+-- "Every valid stack file reads to its components", and they write to that file.
+pub write-of-read : (kind : Kind) (file : List ℕ) (cs : List Component) → Bytes file → checkOf kind file ≡ result cs → fileOf cs ≡ file
+write-of-read kind file cs h e = let v = valid kind file cs e in file-back file cs (v .header) (v .components) h
+
+-- Two valid files that read to the same components are equal byte for byte.
+pub one-file : (kind : Kind) (file other : List ℕ) (cs : List Component) → Bytes file → Bytes other → checkOf kind file ≡ result cs → checkOf kind other ≡ result cs → file ≡ other
+one-file kind file other cs h g e f = sym (write-of-read kind file cs h e) ∙ write-of-read kind other cs g f
+
+-- The components from a file that was written.
+word-of : (x : ℕ) → x < 65536 → low x + 256 * high x ≡ x
+word-of x h = omega arith
+
+-- Each number of the components fits 16 bits.
+pub record Words (c : Component) : Type 0 where
+  pub height-fits : c .height .0 < 65536
+  pub width-fits : c .width .0 < 65536
+  pub gap-fits : c .gap .0 < 65536
+
+abbrev pub AllWords : List Component → Type 0
+AllWords [] = Unit {0}
+AllWords (c ∷ cs) = Words c × AllWords cs
+
+read-body : (cs : List Component) → AllWords cs → tabulate (bodyAt (bytesOf cs)) (length cs) ≡ cs
+unfolding bytesOf tabulate
+read-body [] w = refl
+read-body (c ∷ cs) w =
+    front (bytesOf (c ∷ cs)) (length cs)
+    ∙ rw (word-of (c .height .0) (w .0 .height-fits), word-of (c .width .0) (w .0 .width-fits), word-of (c .gap .0) (w .0 .gap-fits), read-body cs (w .1))
+
+small : (x : ℕ) → leb x 4000 ≡ true → x < 65536
+small x e = omega (arith, leb-true x 4000 e)
+
+words : (cs : List Component) → every goodSize cs ≡ true → every goodGap cs ≡ true → AllWords cs
+unfolding every
+words [] s g = tt
+words (c ∷ cs) s g =
+    let a = both (goodSize c (ends cs)) (every goodSize cs) s in
+    let b = both (goodGap c (ends cs)) (every goodGap cs) g in
+    let d = both (inSize (c .height .0)) (inSize (c .width .0)) (a .0) in
+    let h = both (leb 1 (c .height .0)) (leb (c .height .0) 4000) (d .0) in
+    let w = both (leb 1 (c .width .0)) (leb (c .width .0) 4000) (d .1) in
+    (record { height-fits = small _ (h .1); width-fits = small _ (w .1); gap-fits = gap-small c (ends cs) (b .0) }, words cs (a .1) (b .1))
+  where
+    gap-small : (c : Component) (last : Bool) → goodGap c last ≡ true → c .gap .0 < 65536
+    gap-small c true e = omega (arith, eqb-true (c .gap .0) 0 e)
+    gap-small c false e = small (c .gap .0) e
+
+file-length : (cs : List Component) → length (fileOf cs) ≡ 7 + 6 * length cs
+file-length cs = omega (arith, bytes-length cs)
+
+header-of : (cs : List Component) → length cs < 65536 → headerOf (fileOf cs) ≡ result (length cs)
+unfolding headerOf
+header-of cs h =
+    let n : length (fileOf cs) ≡ 7 + 6 * length cs = file-length cs in
+    let w : wordAt (fileOf cs) 5 ≡ length cs = word-of (length cs) h in
+    rw (le-ltb (length (fileOf cs)) 7 (omega arith), w, eq-eqb (length (fileOf cs)) (7 + 6 * length cs) n)
+
+-- "every valid list of components writes to the one file that reads to it"
+pub read-of-write : (kind : Kind) (cs : List Component) → stackOf (mostOf kind) cs ≡ result cs → checkOf kind (fileOf cs) ≡ result cs
+read-of-write kind cs e =
+    let s = stack-is (mostOf kind) cs cs e .1 in
+    rw (header-of cs (omega (arith, s .few, most-256 kind)), behind (fileOf cs) (length cs), read-body cs (words cs (s .sizes) (s .gaps))) e
+
+-- The same of the calls: what is read is written again, and what was written is read again.
+tabulate-list : (l : List ℕ) → tabulate (λ i. getD l i 0) (length l) ≡ l
+tabulate-list l =
+    ext-getD 0 (tabulate (λ i. getD l i 0) (length l)) l (tabulate-length (λ i. getD l i 0) (length l))
+    (λ i h. tabulate-at (λ j. getD l j 0) (length l) i 0 (omega (arith, tabulate-length (λ j. getD l j 0) (length l))))
+
+length-map : (f : Component → ℕ) (cs : List Component) → length (map f cs) ≡ length cs
+length-map f [] = refl
+length-map f (c ∷ cs) = ap suc (length-map f cs)
+
+none : Component
+none = record { height = record { 0 = 0 }; width = record { 0 = 0 }; gap = record { 0 = 0 } }
+
+parts : (cs : List Component) → componentsIn (map (λ c. c .height .0) cs) (map (λ c. c .width .0) cs) (map (λ c. c .gap .0) cs) ≡ cs
+unfolding none
+parts cs =
+    let g : ℕ → Component = componentIn (map (λ c. c .height .0) cs) (map (λ c. c .width .0) cs) (map (λ c. c .gap .0) cs) in
+    let n : length (map (λ c. c .height .0) cs) ≡ length cs = length-map (λ c. c .height .0) cs in
+    ext-getD none (tabulate g (length (map (λ c. c .height .0) cs))) cs (tabulate-length g (length (map (λ c. c .height .0) cs)) ∙ n)
+    (λ i h.
+    tabulate-at g (length (map (λ c. c .height .0) cs)) i none (omega (arith, tabulate-length g (length (map (λ c. c .height .0) cs))))
+    ∙ rw (List·getD-map (λ c. c .height .0) cs i none, List·getD-map (λ c. c .width .0) cs i none, List·getD-map (λ c. c .gap .0) cs i none))
+
+pub write-what-was-read : (file : List ℕ) (cs : List Component) (room : ℕ) → Bytes file → checkOf Apart file ≡ result cs → length file ≤ room
+    → (writeOf (map (λ c. c .height .0) cs) (map (λ c. c .width .0) cs) (map (λ c. c .gap .0) cs) room ≡ result cs) × (fileOf cs ≡ file)
+write-what-was-read file cs room h e r =
+    let v = valid Apart file cs e in
+    let n = v .header .size in
+    let s : stackOf (mostOf Apart) cs ≡ result cs = stack-of (mostOf Apart) cs (v .stack) in (
+      rw (
+        parts cs,
+        length-map (λ c. c .width .0) cs,
+        length-map (λ c. c .gap .0) cs,
+        length-map (λ c. c .height .0) cs,
+        eq-eqb (length cs) (length cs) refl,
+        s,
+        le-ltb room (7 + 6 * length cs) (omega arith),
+      ),
+      write-of-read Apart file cs h e,
+    )
+
+column-of : (part : Component → ℕ) (g : ℕ → Component) (l : List ℕ) (cs : List Component) → ((i : ℕ) → part (g i) ≡ getD l i 0) → tabulate g (length l) ≡ cs → map part cs ≡ l
+column-of part g l cs e d =
+    rw (← d) (tabulate-map part g (length l))
+    ∙ tabulate-same (λ i. part (g i)) (λ i. getD l i 0) (length l) (λ i h. e i)
+    ∙ tabulate-list l
+
+pub read-what-was-written : (heights widths gaps : List ℕ) (room : ℕ) (cs : List Component) → writeOf heights widths gaps room ≡ result cs
+    → (checkOf Apart (fileOf cs) ≡ result cs) × (map (λ c. c .height .0) cs ≡ heights) × (map (λ c. c .width .0) cs ≡ widths) × (map (λ c. c .gap .0) cs ≡ gaps)
+read-what-was-written heights widths gaps room cs e =
+    let e1 = passed (not (eqb (length widths) (length heights))) 3 _ cs e in
+    let e2 = passed (not (eqb (length gaps) (length heights))) 3 _ cs (e1 .1) in
+    let g : ℕ → Component = componentIn heights widths gaps in
+    let e3 = went-on (stackOf (mostOf Apart) (tabulate g (length heights))) (λ ds. refuseIf (ltb room (7 + 6 * length ds)) 8 (result ds)) cs (e2 .1) in
+    let e4 = passed (ltb room (7 + 6 * length (e3 .0))) 8 (result (e3 .0)) cs (e3 .2) in
+    let s : stackOf (mostOf Apart) (tabulate g (length heights)) ≡ result cs = e3 .1 ∙ e4 .1 in
+    let d : tabulate g (length heights) ≡ cs = stack-is (mostOf Apart) (tabulate g (length heights)) cs s .0 in
+    let w : length widths ≡ length heights = eqb-true _ _ (not-false _ (e1 .0)) in
+    let p : length gaps ≡ length heights = eqb-true _ _ (not-false _ (e2 .0)) in (
+      read-of-write Apart cs (rw d at s),
+      column-of (λ c. c .height .0) g heights cs (λ i. refl) d,
+      column-of (λ c. c .width .0) g widths cs (λ i. refl) (rw w d),
+      column-of (λ c. c .gap .0) g gaps cs (λ i. refl) (rw p d),
+    )

@@ -1,0 +1,21 @@
+-- The bytes of a stack file (document 01, "Components and stack files").
+use Prim.Native.Nat.{ℕ, _/_, _%_}
+use mathlib.Core.List.{List, [], _∷_}
+use lib.ListN.{length}
+use Rattle.terms.specs.declared.Component.{Component}
+
+-- A 16-bit number's two bytes, the low one first.
+abbrev pub low : ℕ → ℕ
+low x = x % 256
+
+abbrev pub high : ℕ → ℕ
+high x = x / 256 % 256
+
+unfoldable pub bytesOf : List Component → List ℕ
+bytesOf [] = []
+bytesOf (c ∷ cs) =
+    low (c .height .0) ∷ high (c .height .0) ∷ low (c .width .0) ∷ high (c .width .0) ∷ low (c .gap .0) ∷ high (c .gap .0) ∷ bytesOf cs
+
+-- "A stack file is: the letters STK (3 bytes), a version (16 bits, 1), the count n (16 bits), then six bytes for each component".
+abbrev pub fileOf : List Component → List ℕ
+fileOf cs = 83 ∷ 84 ∷ 75 ∷ 1 ∷ 0 ∷ low (length cs) ∷ high (length cs) ∷ bytesOf cs

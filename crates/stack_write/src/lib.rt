@@ -1,0 +1,155 @@
+// The writer of stack files.
+ghost use mathlib.Core.Path.{_≡_};
+ghost use mathlib.Core.List.{[], _∷_, _++_};
+ghost use Prim.Native.Nat.{_+_, _*_, _≤_, _<_};
+ghost use lib.ListN.{length, drop};
+ghost use Rattle.terms.specs.Answer.{countAnswer};
+ghost use Rattle.terms.specs.Component.{mostOf, ruleOf, every, stackOf, countOf, componentIn, componentsIn};
+ghost use Rattle.terms.specs.declared.Kind.the-variants.{Apart};
+ghost use Rattle.stack_write.specs.File.{low, high, bytesOf};
+ghost use Rattle.stack_write.specs.Call.{Wrote};
+ghost use Rattle.stack_write.specs.Inner.{InLists, Lists, Writable};
+use terms::Component;
+use terms::Counted;
+use terms::Kind;
+use terms::Position;
+use terms::Refusal;
+use terms::Rows;
+use terms::Rule;
+use terms::Slices;
+
+pub enum Written {
+    Bytes(usize),
+    Refused(Refusal),
+}
+
+fn wide(x: u16) -> u32
+    ensures { λ r. ⌜ r ≡ x ⌝ }
+{
+    x as u32
+}
+
+fn component_in(heights: &[u16], widths: &[u16], gaps: &[u16], p: Position) -> Component
+    requires { ⌜ InLists (p .before) (now heights) (now widths) (now gaps) ⌝ }
+    ensures { λ r. ⌜ r ≡ componentIn (now (heights .entry)) (now (widths .entry)) (now (gaps .entry)) (p .before) ⌝ }
+{
+    let i = p.before;
+    Component {
+        height: Rows(wide(heights[i])),
+        width: Slices(wide(widths[i])),
+        gap: Rows(wide(gaps[i])),
+    }
+}
+
+// Whether each component of the lists keeps the rule.
+fn lists_stand(heights: &[u16], widths: &[u16], gaps: &[u16], rule: Rule) -> bool
+    requires { ⌜ Lists (now heights) (now widths) (now gaps) × (length (now heights) ≤ 256) ⌝ }
+    ensures { λ r. ⌜ r ≡ every (ruleOf rule) (componentsIn (now (heights .entry)) (now (widths .entry)) (now (gaps .entry))) ⌝ }
+{
+    let n = heights.len();
+    let mut p = Position::first();
+    while p.before < n {
+        let c = component_in(heights, widths, gaps, p);
+        let last = p.before + 1 == n;
+        if !terms::stands(rule, c, last) {
+            return false;
+        }
+        p = p.next();
+    }
+    true
+}
+
+// Refusals 4 to 6 of the lists.
+fn check_lists(heights: &[u16], widths: &[u16], gaps: &[u16]) -> Counted
+    requires { ⌜ Lists (now heights) (now widths) (now gaps) ⌝ }
+    ensures { λ r. ⌜ countAnswer r ≡ countOf (stackOf (mostOf Apart) (componentsIn (now (heights .entry)) (now (widths .entry)) (now (gaps .entry)))) ⌝ }
+{
+    let n = heights.len();
+    if n == 0 {
+        return Counted::Refused(Refusal::StackSize);
+    }
+    if terms::most(Kind::Apart) < n {
+        return Counted::Refused(Refusal::StackSize);
+    }
+    if !lists_stand(heights, widths, gaps, Rule::Size) {
+        return Counted::Refused(Refusal::BadComponent);
+    }
+    if !lists_stand(heights, widths, gaps, Rule::Gap) {
+        return Counted::Refused(Refusal::BadGap);
+    }
+    Counted::Components(n)
+}
+
+fn low_byte(x: u32) -> u8
+    ensures { λ r. ⌜ r ≡ low x ⌝ }
+{
+    (x % 256) as u8
+}
+
+fn high_byte(x: u32) -> u8
+    ensures { λ r. ⌜ r ≡ high x ⌝ }
+{
+    (x / 256 % 256) as u8
+}
+
+fn put_header(out: &mut [u8], n: u32)
+    requires { ⌜ 7 ≤ length (now out) ⌝ }
+    ensures { λ _. ⌜ now (out .exit) ≡ 83 ∷ 84 ∷ 75 ∷ 1 ∷ 0 ∷ low n ∷ high n ∷ drop 7 (now (out .entry)) ⌝ }
+{
+    out[0] = b'S';
+    out[1] = b'T';
+    out[2] = b'K';
+    out[3] = 1;
+    out[4] = 0;
+    out[5] = low_byte(n);
+    out[6] = high_byte(n);
+}
+
+fn put_component(out: &mut [u8], c: Component)
+    requires { ⌜ 6 ≤ length (now out) ⌝ }
+    ensures { λ _. ⌜ now (out .exit) ≡ bytesOf (c ∷ []) ++ drop 6 (now (out .entry)) ⌝ }
+{
+    out[0] = low_byte(c.height.0);
+    out[1] = high_byte(c.height.0);
+    out[2] = low_byte(c.width.0);
+    out[3] = high_byte(c.width.0);
+    out[4] = low_byte(c.gap.0);
+    out[5] = high_byte(c.gap.0);
+}
+
+// The components' bytes, six for each.
+fn put_components(heights: &[u16], widths: &[u16], gaps: &[u16], out: &mut [u8])
+    requires { ⌜ Writable (now heights) (now widths) (now gaps) (now out) ⌝ }
+    ensures { λ _. ⌜ now (out .exit) ≡ bytesOf (componentsIn (now (heights .entry)) (now (widths .entry)) (now (gaps .entry))) ++ drop (6 * length (now (heights .entry))) (now (out .entry)) ⌝ }
+{
+    let n = heights.len();
+    let mut p = Position::first();
+    while p.before < n {
+        let c = component_in(heights, widths, gaps, p);
+        let from = 6 * p.before;
+        put_component(&mut out[from..], c);
+        p = p.next();
+    }
+}
+
+pub fn write(heights: &[u16], widths: &[u16], gaps: &[u16], out: &mut [u8]) -> Written
+    ensures { λ r. ⌜ Wrote (now (heights .entry)) (now (widths .entry)) (now (gaps .entry)) (now (out .entry)) r (now (out .exit)) ⌝ }
+{
+    if widths.len() != heights.len() {
+        return Written::Refused(Refusal::WrongLength);
+    }
+    if gaps.len() != heights.len() {
+        return Written::Refused(Refusal::WrongLength);
+    }
+    match check_lists(heights, widths, gaps) {
+        Counted::Refused(k) => Written::Refused(k),
+        Counted::Components(n) => {
+            if out.len() < 7 + 6 * n {
+                return Written::Refused(Refusal::ShortBuffer);
+            }
+            put_header(out, n as u32);
+            put_components(heights, widths, gaps, &mut out[7..]);
+            Written::Bytes(7 + 6 * n)
+        }
+    }
+}

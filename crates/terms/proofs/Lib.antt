@@ -1,0 +1,5 @@
+pub mod Tabulate
+pub mod Every
+pub mod Moves
+pub mod Parts
+pub mod Answers

@@ -1,0 +1,70 @@
+-- Components, and which lists of them are a stack (document 01, "Components and stack files").
+use Prim.Native.Nat.{ℕ, zero, suc}
+use mathlib.Core.List.{List, [], _∷_, _++_}
+use mathlib.Core.Bool.{Bool, true, false, not, _&&_}
+use lib.ListN.{length, getD}
+use lib.Dec.{leb, ltb, eqb}
+use Rattle.terms.specs.declared.Component.{Component}
+use Rattle.terms.specs.declared.Rule.{Rule}
+use Rattle.terms.specs.declared.Kind.{Kind}
+use Rattle.terms.specs.declared.Kind.the-variants.{Apart, Nested}
+use Rattle.terms.specs.Answer.{Answer, result, refuseIf, andThen}
+
+-- "Height and width are 1 to 4,000".
+abbrev pub inSize : ℕ → Bool
+inSize x = leb 1 x && leb x 4000
+
+-- Refusal 5, "a height or width outside its range", does not apply to the component.
+abbrev pub goodSize : Component → Bool → Bool
+goodSize c last = inSize (c .height .0) && inSize (c .width .0)
+
+-- Refusal 6, "a gap over 4,000, or the last gap not 0", does not apply to the component.
+abbrev pub goodGap : Component → Bool → Bool
+goodGap c true = eqb (c .gap .0) 0
+goodGap c false = leb (c .gap .0) 4000
+
+-- The two, by their names in the code.
+abbrev pub ruleOf : Rule → Component → Bool → Bool
+ruleOf Rule.Size = goodSize
+ruleOf Rule.Gap = goodGap
+
+-- Nothing follows: the component before is the last.
+abbrev pub ends : List Component → Bool
+ends [] = true
+ends (c ∷ cs) = false
+
+-- Each component keeps the rule, which is told whether the component is the last.
+unfoldable pub every : (Component → Bool → Bool) → List Component → Bool
+every rule [] = true
+every rule (c ∷ cs) = rule c (ends cs) && every rule cs
+
+-- "n is 0 or over 256; in a nested call over 64": the most components that a call takes. A call without a kind takes 256.
+abbrev pub mostOf : Kind → ℕ
+mostOf Apart = 256
+mostOf Nested = 64
+
+-- Refusals 4 to 6 of a list of components, in order; all heights and widths before any gap.
+unfoldable pub stackOf : ℕ → List Component → Answer (List Component)
+stackOf most cs =
+    refuseIf (eqb (length cs) 0) 4
+    (refuseIf (ltb most (length cs)) 4
+    (refuseIf (not (every goodSize cs)) 5
+    (refuseIf (not (every goodGap cs)) 6
+    (result cs))))
+
+-- g 0, g 1, .., g (n - 1)
+unfoldable pub tabulate : {A : Type 0} → (ℕ → A) → ℕ → List A
+tabulate g zero = []
+tabulate g (suc n) = tabulate g n ++ (g n ∷ [])
+
+-- The components that three lists hold: their entries at the same place.
+abbrev pub componentIn : List ℕ → List ℕ → List ℕ → ℕ → Component
+componentIn heights widths gaps i =
+    record { height = record { 0 = getD heights i 0 }; width = record { 0 = getD widths i 0 }; gap = record { 0 = getD gaps i 0 } }
+
+abbrev pub componentsIn : List ℕ → List ℕ → List ℕ → List Component
+componentsIn heights widths gaps = tabulate (componentIn heights widths gaps) (length heights)
+
+-- The check and the reading of a stack give the number of its components.
+abbrev pub countOf : Answer (List Component) → Answer ℕ
+countOf a = andThen a (λ cs. result (length cs))
