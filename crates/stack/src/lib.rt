@@ -4,6 +4,7 @@ ghost use Prim.Native.Nat.{_+_, _*_, _≤_, _<_};
 ghost use lib.ListN.{length};
 ghost use Rattle.terms.specs.Answer.{countAnswer};
 ghost use Rattle.terms.specs.Component.{mostOf, ruleOf, every, stackOf, countOf};
+ghost use Rattle.terms.specs.declared.Kind.the-variants.{Apart};
 ghost use Rattle.stack.specs.File.{wordAt, componentAt, componentsOf, letters, headerOf, checkOf};
 ghost use Rattle.stack.specs.Calls.{Read, lookupOf};
 ghost use Rattle.stack.specs.Inner.{Fillable, Filled};
@@ -142,10 +143,17 @@ fn fill(file: &[u8], n: usize, heights: &mut [u16], widths: &mut [u16], gaps: &m
     }
 }
 
-pub fn read(file: &[u8], heights: &mut [u16], widths: &mut [u16], gaps: &mut [u16]) -> Counted
-    ensures { λ r. ⌜ Read (now (file .entry)) (now (heights .entry)) (now (widths .entry)) (now (gaps .entry)) r (now (heights .exit)) (now (widths .exit)) (now (gaps .exit)) ⌝ }
+// Reads in a call of the kind.
+pub fn read_as(
+    file: &[u8],
+    kind: Kind,
+    heights: &mut [u16],
+    widths: &mut [u16],
+    gaps: &mut [u16],
+) -> Counted
+    ensures { λ r. ⌜ Read kind (now (file .entry)) (now (heights .entry)) (now (widths .entry)) (now (gaps .entry)) r (now (heights .exit)) (now (widths .exit)) (now (gaps .exit)) ⌝ }
 {
-    match check(file, Kind::Apart) {
+    match check(file, kind) {
         Counted::Refused(k) => Counted::Refused(k),
         Counted::Components(n) => {
             if heights.len() < n {
@@ -161,6 +169,12 @@ pub fn read(file: &[u8], heights: &mut [u16], widths: &mut [u16], gaps: &mut [u1
             Counted::Components(n)
         }
     }
+}
+
+pub fn read(file: &[u8], heights: &mut [u16], widths: &mut [u16], gaps: &mut [u16]) -> Counted
+    ensures { λ r. ⌜ Read Apart (now (file .entry)) (now (heights .entry)) (now (widths .entry)) (now (gaps .entry)) r (now (heights .exit)) (now (widths .exit)) (now (gaps .exit)) ⌝ }
+{
+    read_as(file, Kind::Apart, heights, widths, gaps)
 }
 
 pub fn lookup<'a>(file: &'a [u8], number: usize) -> &'a [u8]

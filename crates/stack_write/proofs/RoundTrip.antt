@@ -4,7 +4,7 @@ use mathlib.Core.Path.{_≡_, refl, ap, sym, _∙_}
 use mathlib.Core.List.{List, [], _∷_, map}
 use mathlib.Core.Bool.{Bool, true, false, not, _&&_}
 use native.Mathlib.Omega.{arith}
-use lib.ListN.{length, drop, getD, List·getD-map}
+use lib.ListN.{length, drop, getD}
 use lib.Seq.{getD-drop, ext-getD}
 use lib.Dec.{eqb, leb, ltb}
 use borrow.Author.Tests.{eqb-true, leb-true, le-ltb, eq-eqb, not-false}
@@ -13,18 +13,16 @@ use Rattle.terms.specs.declared.Kind.{Kind}
 use Rattle.terms.specs.declared.Kind.the-variants.{Apart}
 use Rattle.terms.specs.Answer.{result, refuseIf}
 use Rattle.stack_write.specs.Call.{writeOf}
-use Rattle.terms.specs.Component.{inSize, goodSize, goodGap, ends, every, mostOf, stackOf, tabulate, componentIn, componentsIn}
+use Rattle.terms.specs.Component.{goodSize, goodGap, ends, every, mostOf, stackOf, tabulate, componentIn}
 use Rattle.stack.specs.File.{wordAt, componentFrom, componentAt, componentsOf, headerOf, checkOf}
 use Rattle.stack_write.specs.File.{low, high, bytesOf, fileOf}
 use Rattle.terms.proofs.Tabulate.{tabulate-length, tabulate-at, tabulate-front, tabulate-same, tabulate-map}
 use Rattle.terms.proofs.Answers.{stack-is, stack-of, most-256, passed, went-on}
+use Rattle.terms.proofs.Bools.{both}
+use Rattle.terms.proofs.Lists.{length-map, columns, sized}
 use Rattle.stack.proofs.Valid.{Header, valid}
 use Rattle.stack.proofs.Columns.{Bytes}
 use Rattle.stack_write.proofs.Writing.{bytes-length}
-
-pub both : (a b : Bool) → (a && b) ≡ true → (a ≡ true) × (b ≡ true)
-both true b e = (refl, e)
-both false b e = let z : _≡_ {A = ℕ} 0 1 = cc in absurd (omega arith)
 
 -- The bytes behind the header, read by themselves.
 abbrev bodyAt : List ℕ → ℕ → Component
@@ -140,10 +138,8 @@ words [] s g = tt
 words (c ∷ cs) s g =
     let a = both (goodSize c (ends cs)) (every goodSize cs) s in
     let b = both (goodGap c (ends cs)) (every goodGap cs) g in
-    let d = both (inSize (c .height .0)) (inSize (c .width .0)) (a .0) in
-    let h = both (leb 1 (c .height .0)) (leb (c .height .0) 4000) (d .0) in
-    let w = both (leb 1 (c .width .0)) (leb (c .width .0) 4000) (d .1) in
-    (record { height-fits = small _ (h .1); width-fits = small _ (w .1); gap-fits = gap-small c (ends cs) (b .0) }, words cs (a .1) (b .1))
+    let z = sized c (ends cs) (a .0) in
+    (record { height-fits = omega (arith, z .height-most); width-fits = omega (arith, z .width-most); gap-fits = gap-small c (ends cs) (b .0) }, words cs (a .1) (b .1))
   where
     gap-small : (c : Component) (last : Bool) → goodGap c last ≡ true → c .gap .0 < 65536
     gap-small c true e = omega (arith, eqb-true (c .gap .0) 0 e)
@@ -171,23 +167,6 @@ tabulate-list l =
     ext-getD 0 (tabulate (λ i. getD l i 0) (length l)) l (tabulate-length (λ i. getD l i 0) (length l))
     (λ i h. tabulate-at (λ j. getD l j 0) (length l) i 0 (omega (arith, tabulate-length (λ j. getD l j 0) (length l))))
 
-length-map : (f : Component → ℕ) (cs : List Component) → length (map f cs) ≡ length cs
-length-map f [] = refl
-length-map f (c ∷ cs) = ap suc (length-map f cs)
-
-none : Component
-none = record { height = record { 0 = 0 }; width = record { 0 = 0 }; gap = record { 0 = 0 } }
-
-parts : (cs : List Component) → componentsIn (map (λ c. c .height .0) cs) (map (λ c. c .width .0) cs) (map (λ c. c .gap .0) cs) ≡ cs
-unfolding none
-parts cs =
-    let g : ℕ → Component = componentIn (map (λ c. c .height .0) cs) (map (λ c. c .width .0) cs) (map (λ c. c .gap .0) cs) in
-    let n : length (map (λ c. c .height .0) cs) ≡ length cs = length-map (λ c. c .height .0) cs in
-    ext-getD none (tabulate g (length (map (λ c. c .height .0) cs))) cs (tabulate-length g (length (map (λ c. c .height .0) cs)) ∙ n)
-    (λ i h.
-    tabulate-at g (length (map (λ c. c .height .0) cs)) i none (omega (arith, tabulate-length g (length (map (λ c. c .height .0) cs))))
-    ∙ rw (List·getD-map (λ c. c .height .0) cs i none, List·getD-map (λ c. c .width .0) cs i none, List·getD-map (λ c. c .gap .0) cs i none))
-
 pub write-what-was-read : (file : List ℕ) (cs : List Component) (room : ℕ) → Bytes file → checkOf Apart file ≡ result cs → length file ≤ room
     → (writeOf (map (λ c. c .height .0) cs) (map (λ c. c .width .0) cs) (map (λ c. c .gap .0) cs) room ≡ result cs) × (fileOf cs ≡ file)
 write-what-was-read file cs room h e r =
@@ -195,7 +174,7 @@ write-what-was-read file cs room h e r =
     let n = v .header .size in
     let s : stackOf (mostOf Apart) cs ≡ result cs = stack-of (mostOf Apart) cs (v .stack) in (
       rw (
-        parts cs,
+        columns cs,
         length-map (λ c. c .width .0) cs,
         length-map (λ c. c .gap .0) cs,
         length-map (λ c. c .height .0) cs,

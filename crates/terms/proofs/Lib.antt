@@ -3,3 +3,5 @@ pub mod Every
 pub mod Moves
 pub mod Parts
 pub mod Answers
+pub mod Bools
+pub mod Lists

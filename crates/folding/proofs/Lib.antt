@@ -1,0 +1,12 @@
+pub mod Rules
+pub mod Groups
+pub mod Rows
+pub mod Sides
+pub mod Pairs
+pub mod Apart
+pub mod Steps
+pub mod Placing
+pub mod Walk
+pub mod Measuring
+pub mod Choosing
+pub mod Renumber

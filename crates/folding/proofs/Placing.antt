@@ -1,0 +1,197 @@
+-- The outline of placed components that stand in lists: each of its parts as the code finds it, index by index.
+use Prim.Native.Nat.{ℕ, zero, suc, _+_, _-_, _≤_, _<_, max}
+use mathlib.Core.Path.{_≡_, refl, sym, ap, subst, _∙_}
+use mathlib.Core.Logic.{_⊎_, inl, inr}
+use mathlib.Core.List.{List, [], _∷_, _++_}
+use mathlib.Core.Bool.{true, false, cond}
+use native.Mathlib.Nat.{eq-or-lt-of-le, add-zero}
+use native.Mathlib.Omega.{arith}
+use lib.ListN.{length, getD, drop}
+use lib.Dec.{ltb}
+use borrow.Author.Tests.{lt-ltb, le-ltb, eq-eqb, ne-eqb}
+use Rattle.terms.specs.declared.Component.{Component}
+use Rattle.terms.specs.Component.{tabulate, componentIn, componentsIn}
+use Rattle.terms.proofs.Tabulate.{tabulate-length, tabulate-drop, tabulate-end, tabulate-front, tabulate-same}
+use Rattle.folding.specs.declared.Placed.{Placed}
+use Rattle.folding.specs.declared.Placement.{Placement}
+use Rattle.folding.specs.Placement.{heightOf, widthOf, gapOf, groupOf, startOf, endOf, left, placedOf, placementAt, placementsOf}
+use Rattle.folding.specs.Outline.{topOf, takes, rowSum, greatest, groupWidth, lastGap, folded, foldGap, groupHeight, groupsOf}
+use Rattle.folding.specs.Inner.{placedAt, placedIn, sideAt, startAt, endAt, total, sumAt, Lefts}
+use Rattle.folding.proofs.Rows.{peak, Tall, starts-suffice}
+use Rattle.folding.proofs.Groups.{groups-join, groups-open}
+
+-- The components of a stack with the placements of a run of flat numbers.
+placed-append : (cs : List Component) (c : Component) (ps : List Placement) (p : Placement) → length ps ≡ length cs → placedOf (cs ++ (c ∷ [])) (ps ++ (p ∷ [])) ≡ placedOf cs ps ++ (record { component = c; placement = p } ∷ [])
+unfolding placedOf
+placed-append [] c [] p e = refl
+placed-append [] c (q ∷ ps) p e = absurd (omega arith)
+placed-append (d ∷ cs) c [] p e = absurd (omega arith)
+placed-append (d ∷ cs) c (q ∷ ps) p e = ap (λ (l : List Placed). record { component = d; placement = q } ∷ l) (placed-append cs c ps p (omega arith))
+
+placed-tabulate : (f : ℕ → Component) (g : ℕ → Placement) (n : ℕ) → placedOf (tabulate f n) (tabulate g n) ≡ tabulate (λ i. record { component = f i; placement = g i }) n
+unfolding tabulate placedOf
+placed-tabulate f g zero = refl
+placed-tabulate f g (suc n) =
+    placed-append (tabulate f n) (f n) (tabulate g n) (g n) (tabulate-length g n ∙ sym (tabulate-length f n))
+    ∙ ap (λ (l : List Placed). l ++ (record { component = f n; placement = g n } ∷ [])) (placed-tabulate f g n)
+
+pub placed-lists : (hs ws gs flat : List ℕ) → placedOf (componentsIn hs ws gs) (placementsOf flat (length hs)) ≡ placedIn hs ws gs flat
+placed-lists hs ws gs flat = placed-tabulate (componentIn hs ws gs) (placementAt flat) (length hs)
+
+-- Numbers of tabulated components.
+greatest-same : (f g : ℕ → ℕ) (n : ℕ) → ((i : ℕ) → i < n → f i ≡ g i) → greatest f n ≡ greatest g n
+unfolding greatest
+greatest-same f g zero e = refl
+greatest-same f g (suc n) e = rw (greatest-same f g n (λ i l. e i (omega arith)), e n (omega arith))
+
+module _ (g : ℕ → Placed) where
+  peak-last : (f : Placed → ℕ) (l : List Placed) (x : Placed) → peak f (l ++ (x ∷ [])) ≡ max (peak f l) (f x)
+  unfolding peak
+  peak-last f [] x = omega arith
+  peak-last f (y ∷ l) x = omega (arith, peak-last f l x)
+
+  peak-tabulate : (f : Placed → ℕ) (n : ℕ) → peak f (tabulate g n) ≡ greatest (λ i. f (g i)) n
+  unfolding tabulate greatest peak
+  peak-tabulate f zero = refl
+  peak-tabulate f (suc n) = peak-last f (tabulate g n) (g n) ∙ rw (peak-tabulate f n)
+
+  top-peak : (l : List Placed) → topOf l ≡ peak endOf l
+  unfolding topOf peak
+  top-peak [] = refl
+  top-peak (x ∷ l) = rw (top-peak l)
+
+  pub top-tabulate : (n : ℕ) → topOf (tabulate g n) ≡ greatest (λ i. endOf (g i)) n
+  top-tabulate n = top-peak (tabulate g n) ∙ peak-tabulate endOf n
+
+  sum-last : (row : ℕ) (l : List Placed) (x : Placed) → rowSum (l ++ (x ∷ [])) row ≡ rowSum l row + cond (takes x row) (widthOf x) 0
+  unfolding rowSum
+  sum-last row [] x = omega arith
+  sum-last row (y ∷ l) x = omega (arith, sum-last row l x)
+
+  sum-tabulate : (row n : ℕ) → rowSum (tabulate g n) row ≡ total (λ i. cond (takes (g i) row) (widthOf (g i)) 0) n
+  unfolding tabulate total rowSum
+  sum-tabulate row zero = refl
+  sum-tabulate row (suc n) = sum-last row (tabulate g n) (g n) ∙ rw (sum-tabulate row n)
+
+  tall-last : (l : List Placed) (x : Placed) → Tall l → 0 < heightOf x → Tall (l ++ (x ∷ []))
+  tall-last [] x t h = (h, tt)
+  tall-last (y ∷ l) x t h = (t .0, tall-last l x (t .1) h)
+
+  tall-tabulate : (n : ℕ) → ((i : ℕ) → i < n → 0 < heightOf (g i)) → Tall (tabulate g n)
+  unfolding tabulate
+  tall-tabulate zero h = tt
+  tall-tabulate (suc n) h = tall-last (tabulate g n) (g n) (tall-tabulate n (λ i l. h i (omega arith))) (h n (omega arith))
+
+  pub width-tabulate : (n : ℕ) → ((i : ℕ) → i < n → 0 < heightOf (g i)) → groupWidth (tabulate g n) ≡ greatest (λ j. total (λ i. cond (takes (g i) (startOf (g j))) (widthOf (g i)) 0) n) n
+  width-tabulate n h =
+      starts-suffice (tabulate g n) (tall-tabulate n h)
+      ∙ peak-tabulate (λ x. rowSum (tabulate g n) (startOf x)) n
+      ∙ greatest-same _ _ n (λ j l. sum-tabulate (startOf (g j)) n)
+
+  gap-last : (l : List Placed) (x : Placed) → lastGap (l ++ (x ∷ [])) ≡ gapOf x
+  unfolding lastGap
+  gap-last [] x = refl
+  gap-last (y ∷ []) x = refl
+  gap-last (y ∷ z ∷ l) x = gap-last (z ∷ l) x
+
+  pub gap-tabulate : (n : ℕ) → lastGap (tabulate g (suc n)) ≡ gapOf (g n)
+  unfolding tabulate
+  gap-tabulate n = gap-last (tabulate g n) (g n)
+
+-- Where the first component on the right is.
+module _ (g : ℕ → Placed) (n k : ℕ) (within : k ≤ n) (lefts : (i : ℕ) → i < k → left (g i) ≡ true) (next : k < n → left (g k) ≡ false) where
+  folded-from : (d i : ℕ) → i + d ≡ k → folded (drop i (tabulate g n)) ≡ ltb k n
+  unfolding folded
+  folded-from zero i e = go (eq-or-lt-of-le within)
+    where
+      go : (k ≡ n) ⊎ (k < n) → folded (drop i (tabulate g n)) ≡ ltb k n
+      go (inl z) = rw (tabulate-end g n i (omega arith), le-ltb k n (omega arith))
+      go (inr l) = let m : i ≡ k = omega arith in rw (m, tabulate-drop g n k l, next l, lt-ltb k n l)
+  folded-from (suc d) i e = rw (tabulate-drop g n i (omega arith), lefts i (omega arith)) (folded-from d (i + 1) (omega arith))
+
+  pub folded-tabulate : folded (tabulate g n) ≡ ltb k n
+  folded-tabulate = folded-from k 0 (omega arith)
+
+  module _ (some : k < n) where
+    fold-from : (d i : ℕ) → i + suc d ≡ k → foldGap (drop i (tabulate g n)) ≡ gapOf (g (k - 1))
+    unfolding foldGap
+    fold-from zero i e =
+        let m : k - 1 ≡ i = omega arith in
+        let s : i + 1 ≡ k = omega arith in
+        rw (tabulate-drop g n i (omega arith), s, tabulate-drop g n k some, next some, m)
+    fold-from (suc d) i e =
+        let i′ = fold-from d (i + 1) (omega arith) in
+        rw (tabulate-drop g n i (omega arith), tabulate-drop g n (i + 1) (omega arith), lefts (i + 1) (omega arith))
+        (rw (tabulate-drop g n (i + 1) (omega arith)) at i′)
+
+    pub fold-tabulate : 0 < k → foldGap (tabulate g n) ≡ gapOf (g (k - 1))
+    fold-tabulate h = fold-from (k - 1) 0 (omega arith)
+
+-- A run of equal group numbers is a group.
+module _ (g : ℕ → Placed) (n : ℕ) (from to : ℕ) (within : to ≤ n) (same : (i : ℕ) → from ≤ i → i < to → groupOf (g i) ≡ groupOf (g from)) (other : to < n → groupOf (g to) ≡ groupOf (g from) → ⊥) where
+  cut-from : (d i : ℕ) → from ≤ i → i + suc d ≡ to → groupsOf (drop i (tabulate g n)) ≡ tabulate (λ j. g (i + j)) (suc d) ∷ groupsOf (drop to (tabulate g n))
+  unfolding tabulate groupsOf
+  cut-from zero i h e = go (eq-or-lt-of-le within)
+    where
+      s : i + 1 ≡ to
+      s = omega arith
+
+      one : tabulate (λ j. g (i + j)) 1 ≡ g i ∷ []
+      one = rw (add-zero i)
+
+      go : (to ≡ n) ⊎ (to < n) → groupsOf (drop i (tabulate g n)) ≡ tabulate (λ j. g (i + j)) 1 ∷ groupsOf (drop to (tabulate g n))
+      go (inl z) = rw (one, tabulate-drop g n i (omega arith), s, tabulate-end g n to (omega arith))
+      go (inr l) =
+          rw (one, tabulate-drop g n i (omega arith), s, tabulate-drop g n to l)
+          (groups-open (g i) (g to) (drop (to + 1) (tabulate g n)) (λ z. other l (z ∙ same i h (omega arith))))
+  cut-from (suc d) i h e =
+      let later = cut-from d (i + 1) (omega arith) (omega arith) in
+      let a : tabulate (λ j. g (i + 1 + j)) (suc d) ≡ g (i + 1) ∷ tabulate (λ j. g (i + 1 + suc j)) d = tabulate-front (λ j. g (i + 1 + j)) d ∙ rw (add-zero (i + 1)) in
+      let b : tabulate (λ j. g (i + j)) (suc (suc d)) ≡ g i ∷ tabulate (λ j. g (i + 1 + j)) (suc d) =
+      tabulate-front (λ j. g (i + j)) (suc d) ∙ rw (add-zero i) (ap (λ (l : List Placed). g i ∷ l) (tabulate-same (λ j. g (i + suc j)) (λ j. g (i + 1 + j)) (suc d) (λ j l. ap g (omega arith)))) in
+      let k : groupsOf (g (i + 1) ∷ drop (i + 1 + 1) (tabulate g n)) ≡ (g (i + 1) ∷ tabulate (λ j. g (i + 1 + suc j)) d) ∷ groupsOf (drop to (tabulate g n)) =
+      sym (ap groupsOf (tabulate-drop g n (i + 1) (omega arith))) ∙ later ∙ ap (λ (l : List Placed). l ∷ groupsOf (drop to (tabulate g n))) a in
+      rw (b, a, tabulate-drop g n i (omega arith), tabulate-drop g n (i + 1) (omega arith))
+      (groups-join (g i) (g (i + 1)) (drop (i + 1 + 1) (tabulate g n)) (tabulate (λ j. g (i + 1 + suc j)) d) (groupsOf (drop to (tabulate g n))) (same (i + 1) (omega arith) (omega arith) ∙ sym (same i h (omega arith))) k)
+
+  pub cut-tabulate : from < to → groupsOf (drop from (tabulate g n)) ≡ tabulate (λ j. g (from + j)) (to - from) ∷ groupsOf (drop to (tabulate g n))
+  cut-tabulate h =
+      let e : suc (to - from - 1) ≡ to - from = omega arith in
+      subst (λ (d : ℕ). groupsOf (drop from (tabulate g n)) ≡ tabulate (λ j. g (from + j)) d ∷ groupsOf (drop to (tabulate g n))) e
+      (cut-from (to - from - 1) from (omega arith) (omega arith))
+
+-- The height of a group that stands in lists.
+module _ (hs ws gs flat : List ℕ) (k : ℕ) (some : 0 < length hs) (first : sideAt flat 0 ≡ 0) (l : Lefts flat (length hs) k) (g0 : ℕ) where
+  g : ℕ → Placed
+  g = placedAt hs ws gs flat
+
+  pub has-left : 0 < k
+  has-left = go (eq-or-lt-of-le {n = 0} {m = k} (omega arith))
+    where
+      go : (0 ≡ k) ⊎ (0 < k) → 0 < k
+      go (inl e) = absurd (l .next (omega arith) (rw (← e) first))
+      go (inr h) = h
+
+  last : lastGap (placedIn hs ws gs flat) ≡ getD gs (length hs - 1) 0
+  unfolding g
+  last =
+      let e : suc (length hs - 1) ≡ length hs = omega arith in
+      subst (λ (n : ℕ). lastGap (tabulate g n) ≡ getD gs (length hs - 1) 0) e (gap-tabulate g (length hs - 1))
+
+  fold : folded (placedIn hs ws gs flat) ≡ ltb k (length hs)
+  unfolding g
+  fold = folded-tabulate g (length hs) k (l .within) (λ i h. eq-eqb _ _ (l .on-left i h)) (λ h. ne-eqb _ _ (l .next h))
+
+  pub height-folded : k < length hs → groupHeight g0 (placedIn hs ws gs flat) ≡ greatest (endAt hs flat) (length hs) + max g0 (getD gs (length hs - 1) 0) + getD gs (k - 1) 0
+  unfolding g
+  height-folded h =
+      let f : foldGap (placedIn hs ws gs flat) ≡ getD gs (k - 1) 0 = fold-tabulate g (length hs) k (l .within) (λ i m. eq-eqb _ _ (l .on-left i m)) (λ m. ne-eqb _ _ (l .next m)) h has-left in
+      rw (fold, lt-ltb k (length hs) h, top-tabulate g (length hs), last, f)
+
+  pub height-flat : length hs ≤ k → groupHeight g0 (placedIn hs ws gs flat) ≡ greatest (endAt hs flat) (length hs) + g0 + getD gs (length hs - 1) 0
+  unfolding g
+  height-flat h = rw (fold, le-ltb k (length hs) h, top-tabulate g (length hs), last)
+
+-- The width of a group that stands in lists.
+pub width-lists : (hs ws gs flat : List ℕ) → ((i : ℕ) → i < length hs → 0 < getD hs i 0) → groupWidth (placedIn hs ws gs flat) ≡ greatest (λ j. sumAt hs ws flat (startAt flat j)) (length hs)
+width-lists hs ws gs flat t = width-tabulate (placedAt hs ws gs flat) (length hs) t

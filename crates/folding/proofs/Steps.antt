@@ -1,0 +1,108 @@
+-- Sums, maxima and passes, one component further.
+use Prim.Native.Nat.{ℕ, zero, suc, _+_, _≤_, _<_, max}
+use mathlib.Core.Path.{_≡_, refl, sym, _∙_}
+use mathlib.Core.List.{List, [], _∷_}
+use mathlib.Core.Bool.{Bool, true, false, _&&_}
+use native.Mathlib.Numerals.{add-one}
+use native.Mathlib.Omega.{arith}
+use lib.ListN.{length, getD, drop}
+use lib.Dec.{leb, eqb}
+use borrow.Author.Tests.{leb-true, ne-eqb}
+use borrow.Author.Count.{below-more}
+use Rattle.terms.specs.declared.Kind.{Kind}
+use Rattle.terms.specs.Component.{tabulate}
+use Rattle.terms.proofs.Bools.{both}
+use Rattle.terms.proofs.Tabulate.{tabulate-length, tabulate-at, tabulate-drop, tabulate-end}
+use Rattle.folding.specs.declared.Placed.{Placed}
+use Rattle.folding.specs.Placement.{groupOf, startOf, left}
+use Rattle.folding.specs.Legal.{each, eachPair, inRange, leftFirst, legal}
+use Rattle.folding.specs.Outline.{greatest}
+use Rattle.folding.specs.Inner.{total}
+use Rattle.folding.proofs.Rules.{aloneRules, nextRules, passes, alone-is, legal-is, legal-holds, legal-passes}
+
+pub total-more : (f : ℕ → ℕ) (i : ℕ) → total f (i + 1) ≡ total f i + f i
+unfolding total
+total-more f i = rw add-one
+
+pub total-none : (f : ℕ → ℕ) → total f 0 ≡ 0
+unfolding total
+total-none f = refl
+
+pub greatest-more : (f : ℕ → ℕ) (i : ℕ) → greatest f (i + 1) ≡ max (greatest f i) (f i)
+unfolding greatest
+greatest-more f i = rw add-one
+
+pub greatest-none : (f : ℕ → ℕ) → greatest f 0 ≡ 0
+unfolding greatest
+greatest-none f = refl
+
+-- The pass of a legal folding, of which n components are tabulated.
+module _ (kind : Kind) (g : ℕ → Placed) (n : ℕ) where
+  module _ (x : Placed) (e : x ≡ g 0) (h : 0 < n) {b : Bool} (o : b ≡ (eqb (groupOf x) 0 && left x && aloneRules kind x)) where
+    opened : legal kind (tabulate g n) ≡ (b && passes kind x (drop 1 (tabulate g n)))
+    opened = rw (tabulate-drop g n 0 h, ← e) (legal-passes kind x (drop 1 (tabulate g n)) ∙ rw (← o))
+
+    pub pass-unopened : b ≡ false → false ≡ legal kind (tabulate g n)
+    pass-unopened z = rw (opened, z)
+
+    pub opened-low : b ≡ true → startOf x ≤ 1024000
+    opened-low z = alone-is kind x (both (eqb (groupOf x) 0 && left x) (aloneRules kind x) (sym o ∙ z) .1) .low
+
+    pub pass-opened : b ≡ true → passes kind x (drop 1 (tabulate g n)) ≡ legal kind (tabulate g n)
+    pass-opened z = rw (opened, z)
+
+  module _ (x y : Placed) (i : ℕ) (h : i < n) (e : y ≡ g i) {whole : Bool} (p : passes kind x (drop i (tabulate g n)) ≡ whole) where
+    here : (aloneRules kind y && nextRules x y && passes kind y (drop (i + 1) (tabulate g n))) ≡ whole
+    unfolding passes
+    here = rw (tabulate-drop g n i h, ← e) at p
+
+    pub pass-alone : aloneRules kind y ≡ false → false ≡ whole
+    pass-alone a = rw a at here
+
+    pub pass-broken : aloneRules kind y ≡ true → nextRules x y ≡ false → false ≡ whole
+    pass-broken a f = rw (a, f) at here
+
+    pub pass-on : aloneRules kind y ≡ true → nextRules x y ≡ true → passes kind y (drop (i + 1) (tabulate g n)) ≡ whole
+    pass-on a f = rw (a, f) at here
+
+  pub pass-done : (x : Placed) (i : ℕ) {whole : Bool} → n ≤ i → passes kind x (drop i (tabulate g n)) ≡ whole → true ≡ whole
+  unfolding passes
+  pass-done x i h p = rw (tabulate-end g n i h) at p
+
+-- What holds below i, and at i, holds below i + 1; here from a lower end on.
+pub from-more : (P : ℕ → Type 0) (lo i : ℕ) → ((k : ℕ) → lo ≤ k → k < i → P k) → P i → (k : ℕ) → lo ≤ k → k < i + 1 → P k
+from-more P lo i all here k h l = below-more (λ j. lo ≤ j → P j) i (λ j m g. all j g m) (λ g. here) k l h
+
+-- What the rules of a legal folding say at an index.
+module _ (g : ℕ → Placed) (n : ℕ) where
+  at-each : (rule : Placed → Bool) (l : List Placed) → each rule l ≡ true → (i : ℕ) (d : Placed) → i < length l → rule (getD l i d) ≡ true
+  unfolding each
+  at-each rule [] e i d h = absurd (omega arith)
+  at-each rule (x ∷ l) e zero d h = both (rule x) (each rule l) e .0
+  at-each rule (x ∷ l) e (suc i) d h = at-each rule l (both (rule x) (each rule l) e .1) i d (omega arith)
+
+  at-pair : (rule : Placed → Placed → Bool) (l : List Placed) → eachPair rule l ≡ true → (i : ℕ) (d : Placed) → suc i < length l → rule (getD l i d) (getD l (suc i) d) ≡ true
+  unfolding eachPair
+  at-pair rule [] e i d h = absurd (omega arith)
+  at-pair rule (x ∷ []) e i d h = absurd (omega arith)
+  at-pair rule (x ∷ y ∷ l) e zero d h = both (rule x y) (eachPair rule (y ∷ l)) e .0
+  at-pair rule (x ∷ y ∷ l) e (suc i) d h = at-pair rule (y ∷ l) (both (rule x y) (eachPair rule (y ∷ l)) e .1) i d (omega arith)
+
+  module _ (kind : Kind) (e : legal kind (tabulate g n) ≡ true) where
+    pub legal-low : (i : ℕ) → i < n → startOf (g i) ≤ 1024000
+    legal-low i h =
+        let r = legal-holds kind (tabulate g n) e in
+        let a = at-each inRange (tabulate g n) (r .ranges) i (g 0) (omega (arith, tabulate-length g n)) in
+        leb-true _ _ (both (leb (g i .placement .side) 1) (leb (startOf (g i)) 1024000) (rw (tabulate-at g n i (g 0) h) at a) .1)
+
+    -- The first of a group is on the left.
+    pub legal-first : 0 < n → left (g 0) ≡ true
+    legal-first h = legal-is kind (g 0 ∷ drop 1 (tabulate g n)) (rw (tabulate-drop g n 0 h) at e) .1
+
+    pub legal-opens : (i : ℕ) → i + 1 < n → (groupOf (g (i + 1)) ≡ groupOf (g i) → ⊥) → left (g (i + 1)) ≡ true
+    legal-opens i h d =
+        let r = legal-holds kind (tabulate g n) e in
+        let a = at-pair leftFirst (tabulate g n) (r .lefts) i (g 0) (omega (arith, tabulate-length g n)) in
+        let b : leftFirst (g i) (g (suc i)) ≡ true = rw (tabulate-at g n i (g 0) (omega arith), tabulate-at g n (suc i) (g 0) (omega arith)) at a in
+        let f : eqb (groupOf (g (suc i))) (groupOf (g i)) ≡ false = rw (← add-one i) (ne-eqb (groupOf (g (i + 1))) (groupOf (g i)) d) in
+        rw add-one (rw f at b)

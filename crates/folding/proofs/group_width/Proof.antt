@@ -1,0 +1,68 @@
+use Prim.Native.Nat.{_-_, _*_, _≤_}
+use lib.ListN.{length}
+use Rattle.folding.specs.Inner.{startAt, sumAt}
+use Rattle.folding.specs.Outline.{greatest}
+use Rattle.folding.proofs.Steps.{greatest-none, greatest-more}
+use native.Mathlib.Omega.{arith}
+use mathlib.Core.Path.{_≡_, sym}
+use denote.Ref.{now}
+use borrow.Author.Needs.{needs}
+use Rattle.folding.proofs.group_width.Statement.{statement}
+use Rattle.folding.proofs.group_width.Tie as tie
+
+abbrev Inv-loop : tie.InvT-loop
+Inv-loop heights widths flat width₀ i₀ width i = (i ≤ length heights) × (width ≡ greatest (λ j. sumAt heights widths flat (startAt flat j)) i) × (width ≤ 65535 * length heights)
+
+abbrev μ-loop : tie.MeasureT-loop
+μ-loop heights widths flat width₀ i₀ width i = length heights - i
+
+loop-holds : tie.Need-loop-holds Inv-loop μ-loop
+loop-holds c = (omega arith, sym (greatest-none _), omega arith)
+
+mul-row-sum : tie.Need-mul-row-sum Inv-loop μ-loop
+mul-row-sum c = search needs
+
+add-row-sum : tie.Need-add-row-sum Inv-loop μ-loop
+add-row-sum c = search needs
+
+mul-row-sum-2 : tie.Need-mul-row-sum-2 Inv-loop μ-loop
+mul-row-sum-2 c = search needs
+
+shared-slice-read-row-sum : tie.Need-shared-slice-read-row-sum Inv-loop μ-loop
+shared-slice-read-row-sum c = search needs
+
+row-sum-requires : tie.Need-row-sum-requires Inv-loop μ-loop
+row-sum-requires c κs = c .before .before .before .before .before .before .pre
+
+larger-requires : tie.Need-larger-requires Inv-loop μ-loop
+larger-requires c κs = search needs
+
+add-i : tie.Need-add-i Inv-loop μ-loop
+add-i c = search needs
+
+loop-less : tie.Need-loop-less Inv-loop μ-loop
+loop-less c = search needs
+
+loop-again : tie.Need-loop-again Inv-loop μ-loop
+loop-again c = (omega arith, omega (arith, greatest-more (λ j. sumAt (now (c .before .before .before .before .before .before .before .before .args .heights)) (now (c .before .before .before .before .before .before .before .before .args .widths)) (now (c .before .before .before .before .before .before .before .before .args .flat)) (startAt (now (c .before .before .before .before .before .before .before .before .args .flat)) j)) (c .before .before .before .before .loop .i), c .larger .ensures, c .before .row-sum .ensures .0), omega (arith, c .larger .ensures, c .before .row-sum .ensures .1))
+
+returns : tie.Need-returns Inv-loop μ-loop
+returns c = let e : c .before .loop .i ≡ length (now (c .before .before .before .before .before .args .heights)) = omega arith in (rw e at (c .before .loop .inv .1), c .before .loop .inv .2)
+
+pub group-width-spec : {M : Type 1} → statement M
+group-width-spec =
+    tie.close
+    (tie.spec
+    Inv-loop
+    μ-loop
+    loop-holds
+    mul-row-sum
+    add-row-sum
+    mul-row-sum-2
+    shared-slice-read-row-sum
+    row-sum-requires
+    larger-requires
+    add-i
+    loop-less
+    loop-again
+    returns)

@@ -1,0 +1,176 @@
+-- Worked examples, by computation: a folding behind each known outline of document 01's stacks A to F, and for each rule a folding that breaks it.
+use Prim.Native.Nat.{ℕ}
+use mathlib.Core.Path.{_≡_, refl}
+use mathlib.Core.List.{List, [], _∷_}
+use mathlib.Core.Bool.{true, false}
+use Rattle.terms.specs.declared.Component.{Component}
+use Rattle.terms.specs.declared.Kind.{Kind}
+use Rattle.terms.specs.declared.Kind.the-variants.{Apart, Nested}
+use Rattle.folding.specs.declared.Placement.{Placement}
+use Rattle.folding.specs.Placement.{placedOf}
+use Rattle.folding.specs.Legal.{Legal, each, eachPair, legal}
+use Rattle.folding.specs.Outline.{groupsOf, topOf, rowSum, greatest, lastGap, folded, foldGap, layoutWidth, layoutHeight, outlineOf}
+
+abbrev c : ℕ → ℕ → ℕ → Component
+c h w g = record { height = record { 0 = h }; width = record { 0 = w }; gap = record { 0 = g } }
+
+abbrev p : ℕ → ℕ → ℕ → Placement
+p group side start = record { group = group; side = side; start = start }
+
+-- A legal folding of the stack with this width and height.
+record Folds (kind : Kind) (cs : List Component) (ps : List Placement) (width height : ℕ) : Type 0 where
+  is-legal : Legal kind cs ps
+  has : outlineOf cs ps ≡ record { width = record { 0 = width }; height = record { 0 = height } }
+
+abbrev stack-A : List Component
+stack-A = c 3 2 0 ∷ []
+
+abbrev stack-B : List Component
+stack-B = c 3 1 0 ∷ c 1 1 0 ∷ c 2 1 0 ∷ c 4 1 0 ∷ []
+
+abbrev stack-C : List Component
+stack-C = c 1 1 5 ∷ c 1 1 0 ∷ []
+
+abbrev stack-D : List Component
+stack-D = c 5 9 0 ∷ c 1 1 0 ∷ c 5 9 0 ∷ c 1 1 0 ∷ c 4 9 0 ∷ c 1 1 0 ∷ []
+
+abbrev stack-E : List Component
+stack-E = c 1 3 0 ∷ c 1 1 0 ∷ c 1 1 0 ∷ c 1 3 0 ∷ []
+
+abbrev stack-F : List Component
+stack-F = c 2 5 0 ∷ c 1 4 0 ∷ c 1 1 0 ∷ c 1 4 0 ∷ c 1 1 0 ∷ []
+
+A-apart-2-3 : Folds Apart stack-A (p 0 0 0 ∷ []) 2 3
+unfolding placedOf legal each eachPair groupsOf topOf rowSum greatest lastGap folded foldGap layoutWidth layoutHeight
+A-apart-2-3 = record { is-legal = record { whole = refl; rules = refl }; has = refl }
+
+A-nested-2-3 : Folds Nested stack-A (p 0 0 0 ∷ []) 2 3
+unfolding placedOf legal each eachPair groupsOf topOf rowSum greatest lastGap folded foldGap layoutWidth layoutHeight
+A-nested-2-3 = record { is-legal = record { whole = refl; rules = refl }; has = refl }
+
+B-apart-1-10 : Folds Apart stack-B (p 0 0 7 ∷ p 0 0 6 ∷ p 0 0 4 ∷ p 0 0 0 ∷ []) 1 10
+unfolding placedOf legal each eachPair groupsOf topOf rowSum greatest lastGap folded foldGap layoutWidth layoutHeight
+B-apart-1-10 = record { is-legal = record { whole = refl; rules = refl }; has = refl }
+
+B-apart-2-6 : Folds Apart stack-B (p 0 0 1 ∷ p 0 0 0 ∷ p 1 0 4 ∷ p 1 0 0 ∷ []) 2 6
+unfolding placedOf legal each eachPair groupsOf topOf rowSum greatest lastGap folded foldGap layoutWidth layoutHeight
+B-apart-2-6 = record { is-legal = record { whole = refl; rules = refl }; has = refl }
+
+B-apart-3-4 : Folds Apart stack-B (p 0 0 0 ∷ p 1 0 2 ∷ p 1 0 0 ∷ p 2 0 0 ∷ []) 3 4
+unfolding placedOf legal each eachPair groupsOf topOf rowSum greatest lastGap folded foldGap layoutWidth layoutHeight
+B-apart-3-4 = record { is-legal = record { whole = refl; rules = refl }; has = refl }
+
+C-apart-1-2 : Folds Apart stack-C (p 0 0 1 ∷ p 0 0 0 ∷ []) 1 2
+unfolding placedOf legal each eachPair groupsOf topOf rowSum greatest lastGap folded foldGap layoutWidth layoutHeight
+C-apart-1-2 = record { is-legal = record { whole = refl; rules = refl }; has = refl }
+
+C-nested-1-2 : Folds Nested stack-C (p 0 0 1 ∷ p 0 0 0 ∷ []) 1 2
+unfolding placedOf legal each eachPair groupsOf topOf rowSum greatest lastGap folded foldGap layoutWidth layoutHeight
+C-nested-1-2 = record { is-legal = record { whole = refl; rules = refl }; has = refl }
+
+D-nested-10-14 : Folds Nested stack-D (p 0 0 9 ∷ p 0 0 5 ∷ p 0 0 0 ∷ p 0 1 0 ∷ p 0 1 5 ∷ p 0 1 9 ∷ []) 10 14
+unfolding placedOf legal each eachPair groupsOf topOf rowSum greatest lastGap folded foldGap layoutWidth layoutHeight
+D-nested-10-14 = record { is-legal = record { whole = refl; rules = refl }; has = refl }
+
+E-apart-3-4 : Folds Apart stack-E (p 0 0 3 ∷ p 0 0 2 ∷ p 0 0 1 ∷ p 0 0 0 ∷ []) 3 4
+unfolding placedOf legal each eachPair groupsOf topOf rowSum greatest lastGap folded foldGap layoutWidth layoutHeight
+E-apart-3-4 = record { is-legal = record { whole = refl; rules = refl }; has = refl }
+
+E-apart-6-2 : Folds Apart stack-E (p 0 0 1 ∷ p 0 0 0 ∷ p 1 0 1 ∷ p 1 0 0 ∷ []) 6 2
+unfolding placedOf legal each eachPair groupsOf topOf rowSum greatest lastGap folded foldGap layoutWidth layoutHeight
+E-apart-6-2 = record { is-legal = record { whole = refl; rules = refl }; has = refl }
+
+E-apart-8-1 : Folds Apart stack-E (p 0 0 0 ∷ p 1 0 0 ∷ p 2 0 0 ∷ p 3 0 0 ∷ []) 8 1
+unfolding placedOf legal each eachPair groupsOf topOf rowSum greatest lastGap folded foldGap layoutWidth layoutHeight
+E-apart-8-1 = record { is-legal = record { whole = refl; rules = refl }; has = refl }
+
+E-nested-3-3 : Folds Nested stack-E (p 0 0 1 ∷ p 0 0 0 ∷ p 0 1 0 ∷ p 0 1 2 ∷ []) 3 3
+unfolding placedOf legal each eachPair groupsOf topOf rowSum greatest lastGap folded foldGap layoutWidth layoutHeight
+E-nested-3-3 = record { is-legal = record { whole = refl; rules = refl }; has = refl }
+
+E-nested-6-2 : Folds Nested stack-E (p 0 0 0 ∷ p 1 0 0 ∷ p 1 1 0 ∷ p 1 1 1 ∷ []) 6 2
+unfolding placedOf legal each eachPair groupsOf topOf rowSum greatest lastGap folded foldGap layoutWidth layoutHeight
+E-nested-6-2 = record { is-legal = record { whole = refl; rules = refl }; has = refl }
+
+E-nested-8-1 : Folds Nested stack-E (p 0 0 0 ∷ p 1 0 0 ∷ p 2 0 0 ∷ p 3 0 0 ∷ []) 8 1
+unfolding placedOf legal each eachPair groupsOf topOf rowSum greatest lastGap folded foldGap layoutWidth layoutHeight
+E-nested-8-1 = record { is-legal = record { whole = refl; rules = refl }; has = refl }
+
+F-nested-10-2 : Folds Nested stack-F (p 0 0 0 ∷ p 1 0 1 ∷ p 1 0 0 ∷ p 1 1 0 ∷ p 1 1 1 ∷ []) 10 2
+unfolding placedOf legal each eachPair groupsOf topOf rowSum greatest lastGap folded foldGap layoutWidth layoutHeight
+F-nested-10-2 = record { is-legal = record { whole = refl; rules = refl }; has = refl }
+
+-- side 2 is out of range
+side-two : legal Nested (placedOf stack-C (p 0 0 1 ∷ p 0 2 0 ∷ [])) ≡ false
+unfolding placedOf legal each eachPair
+side-two = refl
+
+-- start row 1,024,001 is out of range
+start-high : legal Apart (placedOf stack-A (p 0 0 1024001 ∷ [])) ≡ false
+unfolding placedOf legal each eachPair
+start-high = refl
+
+-- start row 1,024,000 is in range
+start-highest : legal Apart (placedOf stack-A (p 0 0 1024000 ∷ [])) ≡ true
+unfolding placedOf legal each eachPair
+start-highest = refl
+
+-- the first group is 0
+first-group : legal Apart (placedOf stack-A (p 1 0 0 ∷ [])) ≡ false
+unfolding placedOf legal each eachPair
+first-group = refl
+
+-- group 1 comes after group 0
+group-skipped : legal Apart (placedOf stack-C (p 0 0 0 ∷ p 2 0 0 ∷ [])) ≡ false
+unfolding placedOf legal each eachPair
+group-skipped = refl
+
+-- a group is one run
+group-again : legal Apart (placedOf stack-B (p 0 0 0 ∷ p 1 0 0 ∷ p 0 0 0 ∷ p 1 0 0 ∷ [])) ≡ false
+unfolding placedOf legal each eachPair
+group-again = refl
+
+-- a group has a component on the left
+first-right : legal Nested (placedOf stack-A (p 0 1 0 ∷ [])) ≡ false
+unfolding placedOf legal each eachPair
+first-right = refl
+
+-- each group begins on the left
+second-group-right : legal Nested (placedOf stack-C (p 0 0 0 ∷ p 1 1 0 ∷ [])) ≡ false
+unfolding placedOf legal each eachPair
+second-group-right = refl
+
+-- in a group no left component follows a right one
+left-after-right : legal Nested (placedOf stack-B (p 0 0 0 ∷ p 0 1 0 ∷ p 0 0 0 ∷ p 0 1 0 ∷ [])) ≡ false
+unfolding placedOf legal each eachPair
+left-after-right = refl
+
+-- a left component starts at or above the end of the one after it
+left-overlap : legal Apart (placedOf stack-B (p 0 0 6 ∷ p 0 0 6 ∷ p 0 0 4 ∷ p 0 0 0 ∷ [])) ≡ false
+unfolding placedOf legal each eachPair
+left-overlap = refl
+
+-- empty rows are allowed, also under the first
+left-gap : legal Apart (placedOf stack-B (p 0 0 90 ∷ p 0 0 60 ∷ p 0 0 40 ∷ p 0 0 10 ∷ [])) ≡ true
+unfolding placedOf legal each eachPair
+left-gap = refl
+
+-- a right component starts at or above the end of the one before it
+right-overlap : legal Nested (placedOf stack-B (p 0 0 0 ∷ p 0 1 0 ∷ p 0 1 1 ∷ p 0 1 2 ∷ [])) ≡ false
+unfolding placedOf legal each eachPair
+right-overlap = refl
+
+-- empty rows on the right
+right-gap : legal Nested (placedOf stack-B (p 0 0 0 ∷ p 0 1 5 ∷ p 0 1 6 ∷ p 0 1 100 ∷ [])) ≡ true
+unfolding placedOf legal each eachPair
+right-gap = refl
+
+-- an apart folding has no right side
+apart-right : legal Apart (placedOf stack-C (p 0 0 0 ∷ p 0 1 0 ∷ [])) ≡ false
+unfolding placedOf legal each eachPair
+apart-right = refl
+
+-- a nested folding may have one
+nested-right : legal Nested (placedOf stack-C (p 0 0 0 ∷ p 0 1 0 ∷ [])) ≡ true
+unfolding placedOf legal each eachPair
+nested-right = refl

@@ -1,0 +1,117 @@
+-- What the functions inside this crate promise each other. Nothing here is part of a public promise.
+use Prim.Native.Nat.{ℕ, zero, suc, _+_, _*_, _≤_, _<_}
+use mathlib.Core.Path.{_≡_}
+use mathlib.Core.List.{List}
+use mathlib.Core.Bool.{true, cond, _&&_}
+use lib.ListN.{length, getD, take}
+use lib.Dec.{leb, ltb}
+use Rattle.terms.specs.declared.Kind.{Kind}
+use Rattle.terms.specs.Answer.{Answer, refusal, result}
+use Rattle.terms.specs.Component.{tabulate, componentIn}
+use Rattle.folding.specs.declared.Placed.{Placed}
+use Rattle.folding.specs.declared.Outline.{Outline}
+use Rattle.folding.specs.declared.Winner.{Winner}
+use Rattle.folding.specs.declared.Winner.the-variants.{First, Second, Neither}
+use Rattle.folding.specs.Calls.{secondWins}
+use Rattle.folding.specs.Legal.{legal}
+use Rattle.folding.specs.Placement.{placementAt}
+use Rattle.folding.specs.Outline.{widthIn, heightIn}
+
+-- A stack in three lists, and its placements in a run of flat numbers.
+abbrev pub placedAt : List ℕ → List ℕ → List ℕ → List ℕ → ℕ → Placed
+placedAt hs ws gs flat i = record { component = componentIn hs ws gs i; placement = placementAt flat i }
+
+abbrev pub placedIn : List ℕ → List ℕ → List ℕ → List ℕ → List Placed
+placedIn hs ws gs flat = tabulate (placedAt hs ws gs flat) (length hs)
+
+abbrev pub groupAt : List ℕ → ℕ → ℕ
+groupAt flat i = getD flat (3 * i) 0
+
+abbrev pub sideAt : List ℕ → ℕ → ℕ
+sideAt flat i = getD flat (3 * i + 1) 0
+
+abbrev pub startAt : List ℕ → ℕ → ℕ
+startAt flat i = getD flat (3 * i + 2) 0
+
+abbrev pub endAt : List ℕ → List ℕ → ℕ → ℕ
+endAt hs flat i = startAt flat i + getD hs i 0
+
+-- f 0 + f 1 + .. + f (n - 1)
+unfoldable pub total : (ℕ → ℕ) → ℕ → ℕ
+total f zero = 0
+total f (suc n) = total f n + f n
+
+-- What component i adds to the sum of a row.
+abbrev pub shareAt : List ℕ → List ℕ → List ℕ → ℕ → ℕ → ℕ
+shareAt hs ws flat row i = cond (leb (startAt flat i) row && ltb row (endAt hs flat i)) (getD ws i 0) 0
+
+abbrev pub sumAt : List ℕ → List ℕ → List ℕ → ℕ → ℕ
+sumAt hs ws flat row = total (shareAt hs ws flat row) (length hs)
+
+-- The lists are long enough for the placed components.
+pub record Listed (hs ws gs flat : List ℕ) : Type 0 where
+  pub few : length hs ≤ 256
+  pub widths-long : length ws ≡ length hs
+  pub gaps-long : length gs ≡ length hs
+  pub flat-long : 3 * length hs ≤ length flat
+
+-- No component starts above the range.
+abbrev pub Low : List ℕ → ℕ → Type 0
+Low flat n = (i : ℕ) → i < n → startAt flat i ≤ 1024000
+
+-- The group of the component at `from` ends before `to`.
+pub record GroupEnd (flat : List ℕ) (n from to : ℕ) : Type 0 where
+  pub some : from < to
+  pub within : to ≤ n
+  pub same : (i : ℕ) → from ≤ i → i < to → groupAt flat i ≡ groupAt flat from
+  pub other : to < n → groupAt flat to ≡ groupAt flat from → ⊥
+
+-- The first k components are on the left, and the one after them is not.
+pub record Lefts (flat : List ℕ) (n k : ℕ) : Type 0 where
+  pub within : k ≤ n
+  pub on-left : (i : ℕ) → i < k → sideAt flat i ≡ 0
+  pub next : k < n → sideAt flat k ≡ 0 → ⊥
+
+-- A group's lists, whose first component is on the left.
+pub record GroupFlat (hs gs flat : List ℕ) : Type 0 where
+  pub some : 0 < length hs
+  pub few : length hs ≤ 256
+  pub gaps-long : length gs ≡ length hs
+  pub flat-long : 3 * length hs ≤ length flat
+  pub low : Low flat (length hs)
+  pub first-left : sideAt flat 0 ≡ 0
+
+pub record GroupIn (hs ws gs flat : List ℕ) : Type 0 where
+  pub flat-group : GroupFlat hs gs flat
+  pub widths-long : length ws ≡ length hs
+  pub tall : (i : ℕ) → i < length hs → 0 < getD hs i 0
+
+abbrev pub outlineIn : List Placed → Outline
+outlineIn l = record { width = record { 0 = widthIn l }; height = record { 0 = heightIn l } }
+
+-- A stack that stands in three lists.
+pub record StackIn (hs ws gs : List ℕ) : Type 0 where
+  pub some : 0 < length hs
+  pub few : length hs ≤ 256
+  pub widths-long : length ws ≡ length hs
+  pub gaps-long : length gs ≡ length hs
+  pub tall : (i : ℕ) → i < length hs → 0 < getD hs i 0
+
+-- A stack that stands in the first n entries of three lists.
+pub record FirstIn (n : ℕ) (hs ws gs : List ℕ) : Type 0 where
+  pub heights-long : n ≤ length hs
+  pub widths-long : n ≤ length ws
+  pub gaps-long : n ≤ length gs
+  pub stack : StackIn (take n hs) (take n ws) (take n gs)
+
+-- A stack in lists with a legal folding.
+pub record Legalised (hs ws gs flat : List ℕ) : Type 0 where
+  pub stack : StackIn hs ws gs
+  pub flat-long : 3 * length hs ≤ length flat
+  pub is-legal : (kind : Kind) × (legal kind (placedIn hs ws gs flat) ≡ true)
+
+-- Which of two measured foldings wins.
+abbrev pub winnerIs : Answer Outline → Answer Outline → Winner
+winnerIs (refusal j) q = Neither
+winnerIs (result o) (refusal k) = Neither
+winnerIs (result o) (result p) = cond (secondWins o p) Second First

@@ -1,0 +1,7 @@
+pub mod Placement
+pub mod Legal
+pub mod Outline
+pub mod Best
+pub mod Calls
+pub mod Inner
+mod Examples

@@ -1,0 +1,459 @@
+// Foldings: what a folding's outline is, and which of two is better.
+ghost use mathlib.Core.Path.{_≡_};
+ghost use mathlib.Core.Bool.{Bool, true, _&&_};
+ghost use mathlib.Core.List.{List};
+ghost use Prim.Native.Nat.{ℕ, _+_, _*_, _≤_, _<_, max};
+ghost use lib.ListN.{length, take};
+ghost use lib.Dec.{eqb};
+ghost use Rattle.terms.specs.Component.{componentsIn};
+ghost use Rattle.folding.specs.Placement.{heightOf, groupOf, startOf, endOf, left};
+ghost use Rattle.folding.specs.Legal.{inRange, onSide, sameGroup, inOrder, leftFirst, leftClear, rightClear, legal};
+ghost use Rattle.folding.specs.Outline.{greatest, groupWidth, groupHeight};
+ghost use Rattle.folding.specs.Calls.{measuredAnswer, measureIn, measureOf, chooseOf, secondWins};
+ghost use Rattle.folding.specs.Inner.{placedAt, placedIn, groupAt, sideAt, startAt, endAt, shareAt, sumAt, Listed, Low, GroupEnd, Lefts, GroupFlat, GroupIn, outlineIn, StackIn, FirstIn, Legalised, winnerIs};
+use terms::Component;
+use terms::Counted;
+use terms::Kind;
+use terms::Refusal;
+use terms::Rows;
+use terms::Slices;
+
+pub struct Placement {
+    pub group: u32,
+    pub side: u32,
+    pub start: u32,
+}
+
+// A component of a stack with its placement.
+pub struct Placed {
+    pub component: Component,
+    pub placement: Placement,
+}
+
+pub struct Outline {
+    pub width: Slices,
+    pub height: Rows,
+}
+
+pub enum Measured {
+    Outlined(Outline),
+    Refused(Refusal),
+}
+
+fn wide(x: u16) -> u32
+    ensures { λ r. ⌜ r ≡ x ⌝ }
+    ensures { λ r. ⌜ r < 65536 ⌝ }
+{
+    x as u32
+}
+
+fn larger(a: u32, b: u32) -> u32
+    ensures { λ r. ⌜ r ≡ max a b ⌝ }
+{
+    if a < b {
+        return b;
+    }
+    a
+}
+
+fn placed_at(heights: &[u16], widths: &[u16], gaps: &[u16], flat: &[u32], i: usize) -> Placed
+    requires { ⌜ Listed (now heights) (now widths) (now gaps) (now flat) × (i < length (now heights)) ⌝ }
+    ensures { λ r. ⌜ r ≡ placedAt (now (heights .entry)) (now (widths .entry)) (now (gaps .entry)) (now (flat .entry)) i ⌝ }
+    ensures { λ r. ⌜ heightOf r < 65536 ⌝ }
+{
+    Placed {
+        component: Component {
+            height: Rows(wide(heights[i])),
+            width: Slices(wide(widths[i])),
+            gap: Rows(wide(gaps[i])),
+        },
+        placement: Placement {
+            group: flat[3 * i],
+            side: flat[3 * i + 1],
+            start: flat[3 * i + 2],
+        },
+    }
+}
+
+// The ranges of a placement, and the side that the kind allows.
+fn stands_alone(kind: Kind, x: Placed) -> bool
+    ensures { λ r. ⌜ r ≡ (inRange x && onSide kind x) ⌝ }
+{
+    let p = x.placement;
+    if 1 < p.side {
+        return false;
+    }
+    if 1024000 < p.start {
+        return false;
+    }
+    match kind {
+        Kind::Apart => p.side == 0,
+        Kind::Nested => true,
+    }
+}
+
+fn end_of(x: Placed) -> u32
+    requires { ⌜ (startOf x ≤ 1024000) × (heightOf x < 65536) ⌝ }
+    ensures { λ r. ⌜ r ≡ endOf x ⌝ }
+{
+    x.placement.start + x.component.height.0
+}
+
+// Whether y may follow x, where both are in one group.
+fn stands_behind(x: Placed, y: Placed) -> bool
+    requires { ⌜ (startOf x ≤ 1024000) × (heightOf x < 65536) ⌝ }
+    requires { ⌜ (startOf y ≤ 1024000) × (heightOf y < 65536) ⌝ }
+    requires { ⌜ sameGroup x y ≡ true ⌝ }
+    ensures { λ r. ⌜ r ≡ (inOrder x y && leftFirst x y && leftClear x y && rightClear x y) ⌝ }
+{
+    let p = x.placement;
+    let q = y.placement;
+    if p.side == 0 {
+        if q.side == 0 {
+            return end_of(y) <= p.start;
+        }
+        return true;
+    }
+    if q.side == 0 {
+        return false;
+    }
+    end_of(x) <= q.start
+}
+
+fn may_follow(x: Placed, y: Placed) -> bool
+    requires { ⌜ (startOf x ≤ 1024000) × (heightOf x < 65536) ⌝ }
+    requires { ⌜ (startOf y ≤ 1024000) × (heightOf y < 65536) ⌝ }
+    ensures { λ r. ⌜ r ≡ (inOrder x y && leftFirst x y && leftClear x y && rightClear x y) ⌝ }
+{
+    let p = x.placement;
+    let q = y.placement;
+    if q.group == p.group {
+        return stands_behind(x, y);
+    }
+    if p.group < q.group {
+        if q.group - p.group == 1 {
+            return q.side == 0;
+        }
+    }
+    false
+}
+
+// Whether the placements are legal, in one pass.
+fn is_legal(kind: Kind, heights: &[u16], widths: &[u16], gaps: &[u16], flat: &[u32]) -> bool
+    requires { ⌜ Listed (now heights) (now widths) (now gaps) (now flat) × (0 < length (now heights)) ⌝ }
+    ensures { λ r. ⌜ r ≡ legal kind (placedIn (now (heights .entry)) (now (widths .entry)) (now (gaps .entry)) (now (flat .entry))) ⌝ }
+{
+    let mut x = placed_at(heights, widths, gaps, flat, 0);
+    if !may_open(kind, x) {
+        return false;
+    }
+    let mut i = 1;
+    while i < heights.len() {
+        let y = placed_at(heights, widths, gaps, flat, i);
+        if !stands_alone(kind, y) {
+            return false;
+        }
+        if !may_follow(x, y) {
+            return false;
+        }
+        x = y;
+        i += 1;
+    }
+    true
+}
+
+// The first component is in group 0 and on the left.
+fn may_open(kind: Kind, x: Placed) -> bool
+    ensures { λ r. ⌜ r ≡ (eqb (groupOf x) 0 && left x && (inRange x && onSide kind x)) ⌝ }
+{
+    let p = x.placement;
+    if p.group == 0 {
+        if p.side == 0 {
+            return stands_alone(kind, x);
+        }
+    }
+    false
+}
+
+// Behind the last component of the group of the one at `from`.
+fn group_end(flat: &[u32], n: usize, from: usize) -> usize
+    requires { ⌜ (n ≤ 256) × (3 * n ≤ length (now flat)) × (from < n) ⌝ }
+    ensures { λ r. ⌜ GroupEnd (now (flat .entry)) n from r ⌝ }
+{
+    let group = flat[3 * from];
+    let mut to = from + 1;
+    while to < n {
+        if flat[3 * to] != group {
+            return to;
+        }
+        to += 1;
+    }
+    to
+}
+
+fn end_at(heights: &[u16], flat: &[u32], i: usize) -> u32
+    requires { ⌜ (i < length (now heights)) × (i < 256) × (3 * i + 2 < length (now flat)) × (startAt (now flat) i ≤ 1024000) ⌝ }
+    ensures { λ r. ⌜ r ≡ endAt (now (heights .entry)) (now (flat .entry)) i ⌝ }
+    ensures { λ r. ⌜ r ≤ 1089535 ⌝ }
+{
+    flat[3 * i + 2] + wide(heights[i])
+}
+
+// T: one more than the highest row of the group.
+fn top(heights: &[u16], flat: &[u32]) -> u32
+    requires { ⌜ (length (now heights) ≤ 256) × (3 * length (now heights) ≤ length (now flat)) × Low (now flat) (length (now heights)) ⌝ }
+    ensures { λ r. ⌜ r ≡ greatest (endAt (now (heights .entry)) (now (flat .entry))) (length (now (heights .entry))) ⌝ }
+    ensures { λ r. ⌜ r ≤ 1089535 ⌝ }
+{
+    let mut t = 0;
+    let mut i = 0;
+    while i < heights.len() {
+        t = larger(t, end_at(heights, flat, i));
+        i += 1;
+    }
+    t
+}
+
+// What component i adds to the sum of a row.
+fn share(heights: &[u16], widths: &[u16], flat: &[u32], row: u32, i: usize) -> u32
+    requires { ⌜ (i < length (now heights)) × (i < length (now widths)) × (i < 256) × (3 * i + 2 < length (now flat)) × (startAt (now flat) i ≤ 1024000) ⌝ }
+    ensures { λ r. ⌜ r ≡ shareAt (now (heights .entry)) (now (widths .entry)) (now (flat .entry)) row i ⌝ }
+    ensures { λ r. ⌜ r ≤ 65535 ⌝ }
+{
+    if flat[3 * i + 2] <= row {
+        if row < end_at(heights, flat, i) {
+            return wide(widths[i]);
+        }
+    }
+    0
+}
+
+// The sum of the widths that lie in a row.
+fn row_sum(heights: &[u16], widths: &[u16], flat: &[u32], row: u32) -> u32
+    requires { ⌜ (length (now heights) ≤ 256) × (length (now widths) ≡ length (now heights)) × (3 * length (now heights) ≤ length (now flat)) × Low (now flat) (length (now heights)) ⌝ }
+    ensures { λ r. ⌜ r ≡ sumAt (now (heights .entry)) (now (widths .entry)) (now (flat .entry)) row ⌝ }
+    ensures { λ r. ⌜ r ≤ 65535 * length (now (heights .entry)) ⌝ }
+{
+    let mut sum = 0;
+    let mut i = 0;
+    while i < heights.len() {
+        sum += share(heights, widths, flat, row, i);
+        i += 1;
+    }
+    sum
+}
+
+// The greatest row sum of a group: it occurs at a row where a component starts.
+fn group_width(heights: &[u16], widths: &[u16], flat: &[u32]) -> u32
+    requires { ⌜ (length (now heights) ≤ 256) × (length (now widths) ≡ length (now heights)) × (3 * length (now heights) ≤ length (now flat)) × Low (now flat) (length (now heights)) ⌝ }
+    ensures { λ r. ⌜ r ≡ greatest (λ i. sumAt (now (heights .entry)) (now (widths .entry)) (now (flat .entry)) (startAt (now (flat .entry)) i)) (length (now (heights .entry))) ⌝ }
+    ensures { λ r. ⌜ r ≤ 65535 * length (now (heights .entry)) ⌝ }
+{
+    let mut width = 0;
+    let mut i = 0;
+    while i < heights.len() {
+        width = larger(width, row_sum(heights, widths, flat, flat[3 * i + 2]));
+        i += 1;
+    }
+    width
+}
+
+// How many components of a group are on the left before the first on the right.
+fn lefts(flat: &[u32], n: usize) -> usize
+    requires { ⌜ (n ≤ 256) × (3 * n ≤ length (now flat)) ⌝ }
+    ensures { λ r. ⌜ Lefts (now (flat .entry)) n r ⌝ }
+{
+    let mut k = 0;
+    while k < n {
+        if flat[3 * k + 1] != 0 {
+            return k;
+        }
+        k += 1;
+    }
+    k
+}
+
+fn group_height(heights: &[u16], gaps: &[u16], flat: &[u32], before: u32) -> u32
+    requires { ⌜ GroupFlat (now heights) (now gaps) (now flat) × (before ≤ 65535) ⌝ }
+    ensures { λ r. ⌜ ((ws : List ℕ) → r ≡ groupHeight before (placedIn (now (heights .entry)) ws (now (gaps .entry)) (now (flat .entry)))) ⌝ }
+{
+    let n = heights.len();
+    let t = top(heights, flat);
+    let last = wide(gaps[n - 1]);
+    let k = lefts(flat, n);
+    if k < n {
+        return t + larger(before, last) + wide(gaps[k - 1]);
+    }
+    t + before + last
+}
+
+// The width and the height of one group, with the gap before it.
+fn group_outline(
+    heights: &[u16],
+    widths: &[u16],
+    gaps: &[u16],
+    flat: &[u32],
+    before: u32,
+) -> Outline
+    requires { ⌜ GroupIn (now heights) (now widths) (now gaps) (now flat) × (before ≤ 65535) ⌝ }
+    ensures { λ r. ⌜ r .width .0 ≡ groupWidth (placedIn (now (heights .entry)) (now (widths .entry)) (now (gaps .entry)) (now (flat .entry))) ⌝ }
+    ensures { λ r. ⌜ r .height .0 ≡ groupHeight before (placedIn (now (heights .entry)) (now (widths .entry)) (now (gaps .entry)) (now (flat .entry))) ⌝ }
+    ensures { λ r. ⌜ r .width .0 ≤ 65535 * length (now (heights .entry)) ⌝ }
+{
+    Outline {
+        width: Slices(group_width(heights, widths, flat)),
+        height: Rows(group_height(heights, gaps, flat, before)),
+    }
+}
+
+// The outline of a legal folding, group after group.
+fn outline_of(heights: &[u16], widths: &[u16], gaps: &[u16], flat: &[u32]) -> Outline
+    requires { ⌜ Legalised (now heights) (now widths) (now gaps) (now flat) ⌝ }
+    ensures { λ r. ⌜ r ≡ outlineIn (placedIn (now (heights .entry)) (now (widths .entry)) (now (gaps .entry)) (now (flat .entry))) ⌝ }
+{
+    let n = heights.len();
+    let mut width = 0;
+    let mut height = 0;
+    let mut before = 0;
+    let mut from = 0;
+    while from < n {
+        let to = group_end(flat, n, from);
+        let a = 3 * from;
+        let b = 3 * to;
+        let group = group_outline(
+            &heights[from..to],
+            &widths[from..to],
+            &gaps[from..to],
+            &flat[a..b],
+            before,
+        );
+        width += group.width.0;
+        height = larger(height, group.height.0);
+        before = wide(gaps[to - 1]);
+        from = to;
+    }
+    Outline {
+        width: Slices(width),
+        height: Rows(height),
+    }
+}
+
+// Measures a stack that stands in lists.
+fn measure_lists(
+    kind: Kind,
+    heights: &[u16],
+    widths: &[u16],
+    gaps: &[u16],
+    flat: &[u32],
+) -> Measured
+    requires { ⌜ StackIn (now heights) (now widths) (now gaps) ⌝ }
+    ensures { λ r. ⌜ measuredAnswer r ≡ measureIn kind (componentsIn (now (heights .entry)) (now (widths .entry)) (now (gaps .entry))) (now (flat .entry)) ⌝ }
+{
+    if flat.len() / 3 < heights.len() {
+        return Measured::Refused(Refusal::ShortBuffer);
+    }
+    if !is_legal(kind, heights, widths, gaps, flat) {
+        return Measured::Refused(Refusal::BrokenFolding);
+    }
+    Measured::Outlined(outline_of(heights, widths, gaps, flat))
+}
+
+// Measures a stack that stands in the first n entries of three lists.
+fn measure_first(
+    kind: Kind,
+    n: usize,
+    heights: &[u16],
+    widths: &[u16],
+    gaps: &[u16],
+    flat: &[u32],
+) -> Measured
+    requires { ⌜ FirstIn n (now heights) (now widths) (now gaps) ⌝ }
+    ensures { λ r. ⌜ measuredAnswer r ≡ measureIn kind (componentsIn (take n (now (heights .entry))) (take n (now (widths .entry))) (take n (now (gaps .entry)))) (now (flat .entry)) ⌝ }
+{
+    measure_lists(kind, &heights[..n], &widths[..n], &gaps[..n], flat)
+}
+
+pub fn measure(file: &[u8], kind: Kind, flat: &[u32]) -> Measured
+    ensures { λ r. ⌜ measuredAnswer r ≡ measureOf kind (now (file .entry)) (now (flat .entry)) ⌝ }
+{
+    let mut heights = [0u16; 256];
+    let mut widths = [0u16; 256];
+    let mut gaps = [0u16; 256];
+    match stack::read_as(file, kind, &mut heights, &mut widths, &mut gaps) {
+        Counted::Refused(k) => Measured::Refused(k),
+        Counted::Components(n) => measure_first(kind, n, &heights, &widths, &gaps, flat),
+    }
+}
+
+fn second_wins(o: Outline, p: Outline) -> bool
+    ensures { λ r. ⌜ r ≡ secondWins o p ⌝ }
+{
+    if p.width.0 < o.width.0 {
+        return true;
+    }
+    if p.width.0 == o.width.0 {
+        return p.height.0 < o.height.0;
+    }
+    false
+}
+
+// The first or the second of two measured foldings, or neither.
+enum Winner {
+    First,
+    Second,
+    Neither,
+}
+
+fn better(first: Measured, second: Measured) -> Winner
+    ensures { λ r. ⌜ r ≡ winnerIs (measuredAnswer first) (measuredAnswer second) ⌝ }
+{
+    match first {
+        Measured::Refused(_) => Winner::Neither,
+        Measured::Outlined(o) => match second {
+            Measured::Refused(_) => Winner::Neither,
+            Measured::Outlined(p) => {
+                if second_wins(o, p) {
+                    return Winner::Second;
+                }
+                Winner::First
+            }
+        },
+    }
+}
+
+// Which of two foldings wins, or none where measuring would refuse one of them.
+fn better_of(
+    kind: Kind,
+    n: usize,
+    heights: &[u16],
+    widths: &[u16],
+    gaps: &[u16],
+    first: &[u32],
+    second: &[u32],
+) -> Winner
+    requires { ⌜ FirstIn n (now heights) (now widths) (now gaps) ⌝ }
+    ensures { λ r. ⌜ r ≡ winnerIs (measureIn kind (componentsIn (take n (now (heights .entry))) (take n (now (widths .entry))) (take n (now (gaps .entry)))) (now (first .entry))) (measureIn kind (componentsIn (take n (now (heights .entry))) (take n (now (widths .entry))) (take n (now (gaps .entry)))) (now (second .entry))) ⌝ }
+{
+    let a = measure_first(kind, n, heights, widths, gaps, first);
+    let b = measure_first(kind, n, heights, widths, gaps, second);
+    better(a, b)
+}
+
+pub fn choose<'a>(file: &[u8], kind: Kind, first: &'a [u32], second: &'a [u32]) -> &'a [u32]
+    ensures { λ r. ⌜ now r ≡ chooseOf kind (now (file .entry)) (now (first .entry)) (now (second .entry)) ⌝ }
+{
+    let mut heights = [0u16; 256];
+    let mut widths = [0u16; 256];
+    let mut gaps = [0u16; 256];
+    match stack::read_as(file, kind, &mut heights, &mut widths, &mut gaps) {
+        Counted::Refused(_) => &first[..0],
+        Counted::Components(n) => {
+            let end = 3 * n;
+            match better_of(kind, n, &heights, &widths, &gaps, first, second) {
+                Winner::First => &first[..end],
+                Winner::Second => &second[..end],
+                Winner::Neither => &first[..0],
+            }
+        }
+    }
+}
