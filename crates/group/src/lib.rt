@@ -1,0 +1,1 @@
+// The best heights of one group of a folding.
