@@ -1,16 +1,13 @@
 -- `rows` is the least number of rows: nothing legal takes fewer, and `place` takes no more.
-use Prim.Native.Nat.{ℕ, zero, suc, _+_, _≤_, _<_, min}
-use mathlib.Core.Path.{_≡_, refl, sym, ap, _∙_}
+use Prim.Native.Nat.{ℕ, _+_, _≤_, _<_, min}
+use mathlib.Core.Path.{_≡_, refl}
 use mathlib.Core.Logic.{_⊎_, inl, inr}
 use mathlib.Core.List.{List, [], _∷_}
-use mathlib.Core.Bool.{Bool, true, false}
 use native.Mathlib.Nat.{zero-add, add-zero, add-assoc}
 use native.Mathlib.Decide.{decLe}
 use native.Mathlib.Omega.{arith}
-use lib.Dec.{leb}
-use borrow.Author.Tests.{leb-true, leb-false, le-leb, lt-leb}
+use borrow.Author.Tests.{le-leb, lt-leb}
 use Rattle.terms.specs.declared.Component.{Component}
-use Rattle.terms.proofs.Bools.{either}
 use Rattle.group.specs.Rows.{ht, wd, tall, rows, Starts, packed, putLeft, putRight, place}
 
 -- The components l at the start rows s, each at or above the end of the one before, all within the rows lo to hi.

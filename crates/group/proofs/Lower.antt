@@ -1,0 +1,215 @@
+-- No legal group is lower than the least height at its own width, and none is narrower than the least width for its height.
+use Prim.Native.Nat.{ℕ, zero, suc, _+_, _-_, _*_, _≤_, _<_, min, max}
+use mathlib.Core.Path.{_≡_, refl, sym, ap, _∙_}
+use mathlib.Core.Logic.{_⊎_, inl, inr}
+use mathlib.Core.List.{List, [], _∷_, reverseAux, map}
+use mathlib.Core.Bool.{Bool, true, false, cond, true≢false}
+use native.Mathlib.Nat.{eq-or-lt-of-le, le-of-suc-le-suc}
+use native.Mathlib.Omega.{arith}
+use lib.ListN.{length, length-reverseAux}
+use lib.Dec.{leb}
+use borrow.Author.Tests.{leb-false}
+use Rattle.terms.specs.declared.Component.{Component}
+use Rattle.terms.specs.declared.Kind.{Kind}
+use Rattle.terms.specs.declared.Kind.the-variants.{Apart, Nested}
+use Rattle.terms.proofs.Lists.{AllSized}
+use Rattle.folding.specs.declared.Placed.{Placed}
+use Rattle.folding.specs.Placement.{widthOf, groupOf, startOf, endOf, left}
+use Rattle.folding.specs.Outline.{topOf, groupWidth, groupHeight, lastGap}
+use Rattle.folding.proofs.Rules.{Alone}
+use Rattle.folding.proofs.Groups.{Run}
+use Rattle.folding.proofs.Rows.{Tall}
+use Rattle.folding.proofs.Sides.{Chain, Members, sides, flat-height, fold-height}
+use Rattle.folding.proofs.Pairs.{Narrow, FitAll, AllFit, cap-narrow-left, cap-narrow-right, cap-fits, cap-of}
+use Rattle.group.specs.Rows.{gap, tall, rows}
+use Rattle.group.specs.Group.{gapAfter, widest, flatHeight, foldHeight, lowest, leastHeight, firstFrom, leastWidth}
+use Rattle.group.proofs.Chains.{Stacked, ClearOf, AllClear, stacked-tall, nothing-lower}
+use Rattle.group.proofs.Sides.{take-left, left-side, right-side, tall-sides, gap-sides, gap-front, widest-sides}
+
+abbrev pub componentsOf : List Placed → List Component
+componentsOf l = map (λ x. x .component) l
+
+abbrev pub startsOf : List Placed → List ℕ
+startsOf l = map (λ x. startOf x) l
+
+-- The least of several numbers.
+pub lowest-start : (a : ℕ) (f : ℕ → ℕ) (k : ℕ) → lowest a f k ≤ a
+unfolding lowest
+lowest-start a f zero = omega arith
+lowest-start a f (suc k) = omega (arith, lowest-start a f k)
+
+pub lowest-at : (a : ℕ) (f : ℕ → ℕ) (k p : ℕ) → 0 < p → p ≤ k → lowest a f k ≤ f p
+unfolding lowest
+lowest-at a f zero p g h = absurd (omega arith)
+lowest-at a f (suc k) p g h = go (eq-or-lt-of-le h) (lowest-at a f k p g)
+  where
+    go : (p ≡ suc k) ⊎ (p < suc k) → (p ≤ k → lowest a f k ≤ f p) → min (lowest a f k) (f (suc k)) ≤ f p
+    go (inl e) i = rw e (omega arith)
+    go (inr l) i = omega (arith, i (le-of-suc-le-suc l))
+
+pub least-flat : (kind : Kind) (g0 : ℕ) (cs : List Component) (cap : ℕ) → leastHeight kind g0 cs cap ≤ flatHeight g0 cs
+unfolding leastHeight
+least-flat Apart g0 cs cap = omega arith
+least-flat Nested g0 cs cap = lowest-start (flatHeight g0 cs) (foldHeight g0 cs cap) (length cs - 1)
+
+pub least-fold : (g0 : ℕ) (cs : List Component) (cap p : ℕ) → 0 < p → p < length cs → leastHeight Nested g0 cs cap ≤ foldHeight g0 cs cap p
+unfolding leastHeight
+least-fold g0 cs cap p g h = lowest-at (flatHeight g0 cs) (foldHeight g0 cs cap) (length cs - 1) p g (omega arith)
+
+-- Placed chains are stacked, and what fits is clear.
+chain-stacked : (lo hi : ℕ) (l : List Placed) → Chain lo l → lo ≤ hi → topOf l ≤ hi → Stacked lo hi (componentsOf l) (startsOf l)
+unfolding topOf
+chain-stacked lo hi [] c h t = h
+chain-stacked lo hi (x ∷ l) c h t = (c .0, chain-stacked (endOf x) hi l (c .1) (omega arith) (omega arith))
+
+fits-of : (c : ℕ) (x : Placed) (r : List Placed) → FitAll c x r → ClearOf c (x .component) (startOf x) (componentsOf r) (startsOf r)
+fits-of c x [] f = tt
+fits-of c x (y ∷ r) f = (f .0, fits-of c x r (f .1))
+
+fits-clear : (c : ℕ) (l r : List Placed) → AllFit c l r → AllClear c (componentsOf l) (startsOf l) (componentsOf r) (startsOf r)
+fits-clear c [] r f = tt
+fits-clear c (x ∷ l) r f = (fits-of c x r (f .0), fits-clear c l r (f .1))
+
+pub components-sides : (l r : List Placed) → componentsOf (reverseAux l r) ≡ reverseAux (componentsOf l) (componentsOf r)
+components-sides [] r = refl
+components-sides (x ∷ l) r = components-sides l (x ∷ r)
+
+pub last-gap : (l : List Placed) → lastGap l ≡ gapAfter (componentsOf l)
+unfolding lastGap gapAfter
+last-gap [] = refl
+last-gap (x ∷ []) = refl
+last-gap (x ∷ y ∷ l) = last-gap (y ∷ l)
+
+narrow-widest : (c : ℕ) (l : List Placed) → Narrow c l → widest (componentsOf l) ≤ c
+unfolding widest
+narrow-widest c [] n = omega arith
+narrow-widest c (x ∷ l) n = omega (arith, narrow-widest c l (n .1))
+
+widest-narrow : (c : ℕ) (l : List Placed) → widest (componentsOf l) ≤ c → Narrow c l
+unfolding widest
+widest-narrow c [] h = tt
+widest-narrow c (x ∷ l) h = (omega arith, widest-narrow c l (omega arith))
+
+fit-twice : (w : ℕ) (x : Placed) (r : List Placed) → widthOf x ≤ w → Narrow w r → FitAll (2 * w) x r
+fit-twice w x [] h n = tt
+fit-twice w x (y ∷ r) h n = (λ u v. omega arith, fit-twice w x r h (n .1))
+
+all-fit : (w : ℕ) (l r : List Placed) → Narrow w l → Narrow w r → AllFit (2 * w) l r
+all-fit w [] r m n = tt
+all-fit w (x ∷ l) r m n = (fit-twice w x r (m .0) n, all-fit w l r (m .1) n)
+
+sized-tall : (l : List Placed) → AllSized (componentsOf l) → Tall l
+sized-tall [] s = tt
+sized-tall (x ∷ l) s = (s .0 .height-some, sized-tall l (s .1))
+
+pub sized-sides : (l r : List Component) → AllSized (reverseAux l r) → AllSized l × AllSized r
+sized-sides [] r s = (tt, s)
+sized-sides (x ∷ l) r s = let k = sized-sides l (x ∷ r) s in ((k .1 .0, k .0), k .1 .1)
+
+-- The two sides of a legal group.
+module _ (kind : Kind) (m g0 : ℕ) (x : Placed) (l r : List Placed) (cl : Chain 0 (x ∷ l)) (cr : Chain 0 r) (ml : Members kind m true (x ∷ l)) (mr : Members kind m false r)
+    (sl : AllSized (componentsOf (x ∷ l))) (sr : AllSized (componentsOf r)) where
+  abbrev group : List Placed
+  group = reverseAux (x ∷ l) r
+
+  abbrev width : ℕ
+  width = groupWidth group
+
+  rows-low : rows width 0 0 (componentsOf (x ∷ l)) (componentsOf r) ≤ max (topOf (x ∷ l)) (topOf r)
+  rows-low =
+      nothing-lower width (max (topOf (x ∷ l)) (topOf r)) (componentsOf (x ∷ l)) (componentsOf r) (startsOf (x ∷ l)) (startsOf r)
+      (chain-stacked 0 _ (x ∷ l) cl (omega arith) (omega arith))
+      (chain-stacked 0 _ r cr (omega arith) (omega arith))
+      (fits-clear width (x ∷ l) r (cap-fits width (x ∷ l) r (sized-tall (x ∷ l) sl) (sized-tall r sr) (omega arith)))
+
+  sides-widest : widest (componentsOf group) ≤ width
+  sides-widest =
+      rw (components-sides (x ∷ l) r, widest-sides (componentsOf (x ∷ l)) (componentsOf r))
+      (omega (arith, narrow-widest width (x ∷ l) (cap-narrow-left width (x ∷ l) r (sized-tall (x ∷ l) sl) (sized-tall r sr) (omega arith)), narrow-widest width r (cap-narrow-right width (x ∷ l) r (sized-tall (x ∷ l) sl) (sized-tall r sr) (omega arith))))
+
+  sides-bound : width ≤ 2 * widest (componentsOf group)
+  sides-bound =
+      let w = widest (componentsOf group) in
+      let e : w ≡ max (widest (componentsOf (x ∷ l))) (widest (componentsOf r)) = ap widest (components-sides (x ∷ l) r) ∙ widest-sides (componentsOf (x ∷ l)) (componentsOf r) in
+      cap-of (2 * w) 0 0 (x ∷ l) r cl cr (widest-narrow (2 * w) (x ∷ l) (omega arith)) (widest-narrow (2 * w) r (omega arith))
+      (all-fit w (x ∷ l) r (widest-narrow w (x ∷ l) (omega arith)) (widest-narrow w r (omega arith)))
+
+components-flat : (l : List Placed) → componentsOf (reverseAux l []) ≡ reverseAux (componentsOf l) []
+components-flat l = components-sides l []
+
+flat-least : (kind : Kind) (g0 : ℕ) (c : Component) (cs : List Component) (at : ℕ) → leastHeight kind g0 (reverseAux (c ∷ cs) []) at ≤ tall (c ∷ cs) + g0 + gap c
+unfolding tall
+flat-least kind g0 c cs at = omega (arith, least-flat kind g0 (reverseAux (c ∷ cs) []) at, gap-front c cs, tall-sides (c ∷ cs) [])
+
+flat-lower : (kind : Kind) (m g0 : ℕ) (x : Placed) (l : List Placed) (at : ℕ) → Chain 0 (x ∷ l) → Members kind m true (x ∷ l)
+    → leastHeight kind g0 (componentsOf (reverseAux (x ∷ l) [])) at ≤ groupHeight g0 (reverseAux (x ∷ l) [])
+flat-lower kind m g0 x l at c e =
+    rw (flat-height kind m g0 x l e, components-flat (x ∷ l))
+    (omega (
+      arith,
+      flat-least kind g0 (x .component) (componentsOf l) at,
+      stacked-tall 0 (topOf (x ∷ l)) (componentsOf (x ∷ l)) (startsOf (x ∷ l)) (chain-stacked 0 (topOf (x ∷ l)) (x ∷ l) c (omega arith) (omega arith)),
+    ))
+
+-- With a fold behind the components of one side.
+fold-least : (g0 : ℕ) (c : Component) (l : List Component) (d : Component) (r : List Component) (at : ℕ)
+    → leastHeight Nested g0 (reverseAux (c ∷ l) (d ∷ r)) at ≤ rows at 0 0 (c ∷ l) (d ∷ r) + max g0 (gapAfter (d ∷ r)) + gap c
+fold-least g0 c l d r at =
+    rw (left-side (c ∷ l) (d ∷ r), right-side (c ∷ l) (d ∷ r), take-left (c ∷ l) (d ∷ r), gap-front c l, gap-sides (c ∷ l) d r)
+    at (least-fold g0 (reverseAux (c ∷ l) (d ∷ r)) at (length (c ∷ l)) (omega arith) (omega (arith, length-reverseAux (c ∷ l) (d ∷ r))))
+
+fold-lower : (m g0 : ℕ) (x : Placed) (l : List Placed) (y : Placed) (r : List Placed) (at : ℕ) → Members Nested m true (x ∷ l) → Members Nested m false (y ∷ r)
+    → rows at 0 0 (componentsOf (x ∷ l)) (componentsOf (y ∷ r)) ≤ max (topOf (x ∷ l)) (topOf (y ∷ r))
+    → leastHeight Nested g0 (componentsOf (reverseAux (x ∷ l) (y ∷ r))) at ≤ groupHeight g0 (reverseAux (x ∷ l) (y ∷ r))
+fold-lower m g0 x l y r at e f h =
+    rw (fold-height Nested m g0 x l y r e f, components-sides (x ∷ l) (y ∷ r))
+    (omega (arith, h, last-gap (y ∷ r), fold-least g0 (x .component) (componentsOf l) (y .component) (componentsOf r) at))
+
+-- A legal group by its sides: its width is between the widest and twice the widest, and it is no lower than the least.
+pub record Measured (kind : Kind) (g0 : ℕ) (g : List Placed) : Type 0 where
+  pub wide : widest (componentsOf g) ≤ groupWidth g
+  pub slim : groupWidth g ≤ 2 * widest (componentsOf g)
+  pub high : leastHeight kind g0 (componentsOf g) (groupWidth g) ≤ groupHeight g0 g
+
+measured-sides : (kind : Kind) (m g0 : ℕ) (x : Placed) (l r : List Placed) → Chain 0 (x ∷ l) → Chain 0 r → Members kind m true (x ∷ l) → Members kind m false r
+    → AllSized (componentsOf (x ∷ l)) → AllSized (componentsOf r) → Measured kind g0 (reverseAux (x ∷ l) r)
+measured-sides kind m g0 x l [] cl cr ml mr sl sr = record {
+  wide = sides-widest kind m g0 x l [] cl cr ml mr sl sr;
+  slim = sides-bound kind m g0 x l [] cl cr ml mr sl sr;
+  high = flat-lower kind m g0 x l _ cl ml;
+}
+measured-sides kind m g0 x l (y ∷ r) cl cr ml mr sl sr = go kind ml mr
+  where
+    go : (k : Kind) → Members k m true (x ∷ l) → Members k m false (y ∷ r) → Measured k g0 (reverseAux (x ∷ l) (y ∷ r))
+    go Apart a b = absurd (true≢false (sym (b .2 .side-stands) ∙ b .1))
+    go Nested a b = record {
+      wide = sides-widest Nested m g0 x l (y ∷ r) cl cr a b sl sr;
+      slim = sides-bound Nested m g0 x l (y ∷ r) cl cr a b sl sr;
+      high = fold-lower m g0 x l y r _ a b (rows-low Nested m g0 x l (y ∷ r) cl cr a b sl sr);
+    }
+
+measured-order : (kind : Kind) (g0 m : ℕ) (g : List Placed) (x : Placed) (l r : List Placed) → g ≡ reverseAux (x ∷ l) r → Chain 0 (x ∷ l) → Chain 0 r → Members kind m true (x ∷ l)
+    → Members kind m false r → AllSized (componentsOf g) → Measured kind g0 g
+measured-order kind g0 m g x l r e cl cr ml mr s =
+    let z = sized-sides (componentsOf (x ∷ l)) (componentsOf r) (rw (e, components-sides (x ∷ l) r) at s) in
+    rw e (measured-sides kind m g0 x l r cl cr ml mr (z .0) (z .1))
+
+pub measured : (kind : Kind) (g0 : ℕ) (x : Placed) (a : List Placed) → left x ≡ true → Alone kind x → Run kind x a → AllSized (componentsOf (x ∷ a)) → Measured kind g0 (x ∷ a)
+measured kind g0 x a l e r s =
+    let d = sides kind [] x a l e r tt tt in
+    measured-order kind g0 (groupOf x) (x ∷ a) (d .lowest) (d .lefts) (d .rights) (d .order) (d .left-chain) (d .right-chain) (d .left-members) (d .right-members) s
+
+-- The first number from which on a limit is kept.
+pub first-le : (f : ℕ → ℕ) (limit c n k : ℕ) → c ≤ k → k < c + n → f k ≤ limit → firstFrom f limit c n ≤ k
+unfolding firstFrom
+first-le f limit c zero k h g e = absurd (omega arith)
+first-le f limit c (suc n) k h g e = go (leb (f c) limit) refl (first-le f limit (suc c) n k) (eq-or-lt-of-le h)
+  where
+    go : (b : Bool) → leb (f c) limit ≡ b → (suc c ≤ k → k < suc c + n → f k ≤ limit → firstFrom f limit (suc c) n ≤ k) → (c ≡ k) ⊎ (c < k) → cond b c (firstFrom f limit (suc c) n) ≤ k
+    go true q i d = h
+    go false q i (inl d) = absurd (omega (arith, leb-false (f c) limit q, ap f d))
+    go false q i (inr d) = i d (omega arith) e
+
+pub least-width : (kind : Kind) (g0 : ℕ) (g : List Placed) (limit : ℕ) → Measured kind g0 g → groupHeight g0 g ≤ limit → leastWidth kind g0 (componentsOf g) limit ≤ groupWidth g
+least-width kind g0 g limit d h =
+    first-le (leastHeight kind g0 (componentsOf g)) limit (widest (componentsOf g)) (suc (widest (componentsOf g))) (groupWidth g) (d .wide) (omega (arith, d .slim)) (omega (arith, d .high, h))

@@ -1,0 +1,33 @@
+-- The table of all pairs of sides of one group, in a work buffer: the entry (p, q) is at p * 65 + q.
+use Prim.Native.Nat.{ℕ, _+_, _*_, _≤_, _<_}
+use mathlib.Core.Path.{_≡_}
+use mathlib.Core.List.{List, [], _∷_}
+use lib.ListN.{length, getD}
+use Rattle.terms.specs.declared.Component.{Component}
+use Rattle.terms.specs.Component.{componentsIn}
+use Rattle.folding.specs.declared.Placement.{Placement}
+use Rattle.group.specs.Rows.{rows}
+use Rattle.group.specs.Group.{leftSide, rightSide}
+
+-- The components of two lists. Their gaps do not matter to rows and starts.
+abbrev pub bare : List ℕ → List ℕ → List Component
+bare hs ws = componentsIn hs ws []
+
+-- The least rows of the first p components, last first, beside those from q on.
+abbrev pub entry : List ℕ → List ℕ → ℕ → ℕ → ℕ → ℕ
+entry hs ws cap p q = rows cap 0 0 (leftSide p (bare hs ws)) (rightSide q (bare hs ws))
+
+-- Lists of one group: as many widths as heights, and each at most 4,000.
+pub record Columns (hs ws : List ℕ) : Type 0 where
+  pub same : length ws ≡ length hs
+  pub low : (i : ℕ) → getD hs i 0 ≤ 4000
+  pub slim : (i : ℕ) → getD ws i 0 ≤ 4000
+
+pub record Filled (hs ws es : List ℕ) (cap : ℕ) : Type 0 where
+  pub room : 4225 ≤ length es
+  pub right : (p q : ℕ) → p ≤ q → q ≤ length hs → getD es (p * 65 + q) 0 ≡ entry hs ws cap p q
+
+-- Placements as flat numbers.
+unfoldable pub flatOf : List Placement → List ℕ
+flatOf [] = []
+flatOf (x ∷ ps) = x .group ∷ x .side ∷ x .start ∷ flatOf ps
