@@ -2,13 +2,24 @@
 use Prim.Native.Nat.{ℕ, _≤_, _<_}
 use mathlib.Core.Path.{_≡_}
 use mathlib.Core.Logic.{_⊎_}
-use mathlib.Core.List.{List}
+use mathlib.Core.List.{List, [], _∷_}
 use Rattle.terms.specs.declared.Component.{Component}
 use Rattle.terms.specs.declared.Kind.{Kind}
 use Rattle.folding.specs.declared.Placement.{Placement}
 use Rattle.folding.specs.declared.Outline.{Outline}
 use Rattle.folding.specs.Legal.{Legal}
 use Rattle.folding.specs.Outline.{outlineOf}
+
+-- An outline is in a list of them.
+abbrev pub Among : Outline → List Outline → Type 0
+Among o [] = ⊥
+Among o (p ∷ os) = (o ≡ p) ⊎ Among o os
+
+-- "widths strictly rise, heights strictly fall"
+abbrev pub Rising : List Outline → Type 0
+Rising [] = Unit {0}
+Rising (o ∷ []) = Unit {0}
+Rising (o ∷ p ∷ os) = (o .width .0 < p .width .0) × (p .height .0 < o .height .0) × Rising (p ∷ os)
 
 module _ (kind : Kind) (cs : List Component) where
   -- "A folding keeps H when its outline's height is at most H, and W when its outline's width is at most W; wider and higher compare outlines."
@@ -48,3 +59,9 @@ module _ (kind : Kind) (cs : List Component) where
     pub has : outlineOf cs folding ≡ o
     pub unbeaten : (other : List Placement) → Legal kind cs other
         → (o .width .0 < outlineOf cs other .width .0) ⊎ ((o .height .0 < outlineOf cs other .height .0) ⊎ (outlineOf cs other ≡ o))
+
+  -- Outline table: "the unbeaten outlines", all of them and no others; "widths strictly rise, heights strictly fall".
+  pub record Listing (os : List Outline) : Type 0 where
+    pub ordered : Rising os
+    pub sound : (o : Outline) → Among o os → Unbeaten o
+    pub complete : (o : Outline) → Unbeaten o → Among o os

@@ -1,0 +1,11 @@
+pub mod Scan
+pub mod Lower
+pub mod Folds
+pub mod Reach
+pub mod Widths
+pub mod Prune
+pub mod Bounds
+pub mod Heights
+pub mod Best
+pub mod Table
+pub mod Fuel
