@@ -1,0 +1,5 @@
+pub mod Flat
+pub mod Bare
+pub mod Sides
+pub mod Turns
+pub mod Writing

@@ -1,0 +1,108 @@
+-- The known stacks, proved: each line by computation through the layout's definitions and by the theorems on them.
+use Prim.Native.Nat.{ℕ, _-_, _≤_, _<_}
+use mathlib.Core.Path.{_≡_, refl, sym, ap, subst}
+use mathlib.Core.List.{List, [], _∷_}
+use mathlib.Core.Bool.{Bool, true, false}
+use native.Mathlib.Omega.{arith}
+use lib.ListN.{length}
+use lib.Dec.{leb, ltb}
+use borrow.Author.Tests.{ltb-true, ltb-false, leb-true}
+use Rattle.terms.specs.declared.Component.{Component}
+use Rattle.terms.specs.declared.Kind.{Kind}
+use Rattle.terms.specs.Answer.{Answer, refusal, result}
+use Rattle.terms.specs.Component.{mostOf, stackOf, countOf, every}
+use Rattle.terms.proofs.Answers.{stack-is, most-256, result-same}
+use Rattle.terms.proofs.Lists.{AllSized, all-sized}
+use Rattle.folding.specs.declared.Outline.{Outline}
+use Rattle.folding.specs.declared.Placement.{Placement}
+use Rattle.folding.specs.Best.{BestForHeight, BestForWidth, Listing}
+use Rattle.group.specs.Rows.{tall, rows}
+use Rattle.group.specs.Group.{none, gapAfter, widest, lowest, leastHeight, firstFrom}
+use Rattle.layout.specs.Layout.{Layout, scan, layouts, layoutOf}
+use Rattle.layout.specs.Table.{outline, outlines}
+use Rattle.layout.proofs.Heights.{AllGaps, all-gaps}
+use Rattle.layout.proofs.Reach.{reach}
+use Rattle.layout.proofs.Best.{best-height, unmeetable-height, Below, best-width, unmeetable-width}
+use Rattle.layout.proofs.Table as tables
+use Rattle.known.specs.Known.{Line, to-height, to-width, table, size, Holds, AllHold, units, lines}
+
+-- What the layout of a stack answers for a height.
+abbrev answerOf : Bool → Layout → Answer Outline
+answerOf true b = result (outline (b .width) (b .height))
+answerOf false b = refusal 9
+
+abbrev found : Kind → ℕ → List Component → Answer Outline
+found kind limit cs = answerOf (ltb (layoutOf kind limit 0 cs .width) none) (layoutOf kind limit 0 cs)
+
+-- A line by computation: the list of components is a stack, and the layouts answer as it says.
+abbrev IsStack : Kind → List Component → Type 0
+IsStack kind cs = stackOf (mostOf kind) cs ≡ result cs
+
+abbrev Computed : Line → Type 0
+Computed (to-height kind cs limit a) = IsStack kind cs × (found kind limit cs ≡ a)
+Computed (to-width kind cs limit (refusal k)) = IsStack kind cs × (k ≡ 9) × (ltb limit (layoutOf kind 2000000 0 cs .width) ≡ true)
+Computed (to-width kind cs limit (result o)) =
+    IsStack kind cs × (found kind (o .height .0) cs ≡ result o) × (leb (o .width .0) limit ≡ true) × (ltb limit (layoutOf kind (o .height .0 - 1) 0 cs .width) ≡ true)
+Computed (table kind cs os) = IsStack kind cs × (outlines kind cs 2000000 2000000 ≡ os)
+Computed (size kind cs a) = countOf (stackOf (mostOf kind) cs) ≡ a
+
+abbrev AllComputed : List Line → Type 0
+AllComputed [] = Unit {0}
+AllComputed (l ∷ ls) = Computed l × AllComputed ls
+
+computed : AllComputed lines
+unfolding lines tall rows gapAfter widest lowest leastHeight firstFrom scan layouts outlines stackOf every units
+computed =
+    ((refl, refl), ((refl, refl), ((refl, refl), ((refl, refl), ((refl, refl, refl), ((refl, refl, refl), ((refl, refl), ((refl, refl, refl, refl), ((refl, refl), ((refl, refl), ((refl, refl), ((refl, refl), ((refl, refl), ((refl, refl, refl, refl), ((refl, refl), ((refl, refl), ((refl, refl), (refl, (refl, (refl, (refl, (refl, (refl, tt)))))))))))))))))))))))
+
+-- What a stack's check says.
+module _ (kind : Kind) (cs : List Component) (e : IsStack kind cs) where
+  stack-few : length cs ≤ 256
+  stack-few = omega (arith, stack-is (mostOf kind) cs cs e .1 .few, most-256 kind)
+
+  stack-some : 0 < length cs
+  stack-some = stack-is (mostOf kind) cs cs e .1 .some
+
+  stack-sized : AllSized cs
+  stack-sized = all-sized cs (stack-is (mostOf kind) cs cs e .1 .sizes)
+
+  stack-gaps : AllGaps cs
+  stack-gaps = all-gaps cs (stack-is (mostOf kind) cs cs e .1 .gaps)
+
+met-is : (t : Bool) (b : Layout) (o : Outline) → ltb (b .width) none ≡ t → answerOf t b ≡ result o → (b .width < none) × (outline (b .width) (b .height) ≡ o)
+met-is true b o t q = (ltb-true _ _ t, result-same q)
+met-is false b o t q = let z : _≡_ {A = ℕ} 0 1 = cc in absurd (omega arith)
+
+unmet-is : (t : Bool) (b : Layout) (k : ℕ) → ltb (b .width) none ≡ t → answerOf t b ≡ refusal k → (none ≤ b .width) × (k ≡ 9)
+unmet-is true b k t q = let z : _≡_ {A = ℕ} 0 1 = cc in absurd (omega arith)
+unmet-is false b k t q = let z : 9 ≡ k = cc in (ltb-false _ _ t, sym z)
+
+width-found : (kind : Kind) (cs : List Component) (limit : ℕ) (o : Outline) → IsStack kind cs → (layoutOf kind (o .height .0) 0 cs .width < none)
+    × (outline (layoutOf kind (o .height .0) 0 cs .width) (layoutOf kind (o .height .0) 0 cs .height) ≡ o) → o .width .0 ≤ limit → limit < layoutOf kind (o .height .0 - 1) 0 cs .width
+    → (ps : List Placement) × BestForWidth kind cs limit ps o
+width-found kind cs limit o e r w b =
+    let few = stack-few kind cs e in
+    let s = stack-sized kind cs e in
+    let at = o .height .0 in
+    let f = reach kind at 0 0 cs few s (r .0) in
+    let below : Below kind cs few s limit at = λ k h. let z : at - 1 ≡ k = omega (arith, h) in rw z at b in
+    (f .0, subst (BestForWidth kind cs limit (f .0)) (r .1) (best-width kind cs few s limit at below (f .0) (omega (arith, w, ap (λ (x : Outline). x .width .0) (r .1))) (r .0) (f .1)))
+
+sound : (l : Line) → Computed l → Holds l
+sound (to-height kind cs limit (refusal k)) h = let r = unmet-is _ (layoutOf kind limit 0 cs) k refl (h .1) in (r .1, unmeetable-height kind cs (stack-few kind cs (h .0)) (stack-sized kind cs (h .0)) limit (r .0))
+sound (to-height kind cs limit (result o)) h =
+    let r = met-is _ (layoutOf kind limit 0 cs) o refl (h .1) in
+    let f = reach kind limit 0 0 cs (stack-few kind cs (h .0)) (stack-sized kind cs (h .0)) (r .0) in
+    (f .0, subst (BestForHeight kind cs limit (f .0)) (r .1) (best-height kind cs (stack-few kind cs (h .0)) (stack-sized kind cs (h .0)) limit (f .0) (r .0) (f .1)))
+sound (to-width kind cs limit (refusal k)) h = (h .1, unmeetable-width kind cs (stack-few kind cs (h .0)) (stack-sized kind cs (h .0)) (stack-gaps kind cs (h .0)) limit (ltb-true _ _ (h .2)))
+sound (to-width kind cs limit (result o)) h = width-found kind cs limit o (h .0) (met-is _ (layoutOf kind (o .height .0) 0 cs) o refl (h .1)) (leb-true _ _ (h .2)) (ltb-true _ _ (h .3))
+sound (table kind cs os) h = subst (Listing kind cs) (h .1) (tables.table kind cs (stack-some kind cs (h .0)) (stack-few kind cs (h .0)) (stack-sized kind cs (h .0)) (stack-gaps kind cs (h .0)))
+sound (size kind cs a) h = h
+
+all-sound : (ls : List Line) → AllComputed ls → AllHold ls
+all-sound [] h = tt
+all-sound (l ∷ ls) h = (sound l (h .0), all-sound ls (h .1))
+
+-- Every known stack is as document 01 says.
+pub known : AllHold lines
+known = all-sound lines computed
