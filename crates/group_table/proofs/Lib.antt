@@ -1,0 +1,3 @@
+pub mod Laws
+pub mod Walking
+pub mod Filling

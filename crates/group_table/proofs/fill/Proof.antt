@@ -1,0 +1,68 @@
+use Prim.Native.Nat.{_-_}
+use lib.ListN.{length}
+use Rattle.group_table.proofs.Filling.{Tabling, borders, corner-empty, table-start, row-asks, row-filled, table-ends}
+use native.Mathlib.Omega.{arith}
+use mathlib.Core.Path.{_∙_}
+use Rattle.group_table.proofs.fill.Statement.{statement}
+use Rattle.group_table.proofs.fill.Tie as tie
+use Rattle.group_table.proofs.fill_row.Reads as fill-row-reads
+use Rattle.group_table.proofs.fill_side.Reads as fill-side-reads
+use Rattle.group_table.proofs.fill_top.Reads as fill-top-reads
+
+abbrev Inv-loop : tie.InvT-loop
+Inv-loop h w e₀ cap m p₀ e p = Tabling h w e₀ e cap p
+
+abbrev μ-loop : tie.MeasureT-loop
+μ-loop h w e₀ cap m p₀ e p = length h - p
+
+-- src/lib.rt:139:5
+fill-top-requires : tie.Need-fill-top-requires Inv-loop μ-loop
+fill-top-requires c κs = borders (c .before .before .before .before .args .cap) (c .before .before .before .before .pre .columns) (c .before .before .before .before .pre .few) (c .before .before .before .before .pre .room)
+
+-- src/lib.rt:140:5
+fill-side-requires : tie.Need-fill-side-requires Inv-loop μ-loop
+fill-side-requires c κs = (borders (c .before .before .before .before .before .before .before .before .args .cap) (c .before .before .before .before .before .before .before .before .pre .columns) (c .before .before .before .before .before .before .before .before .pre .few) (omega (arith, c .before .before .before .before .before .before .before .before .pre .room, c .before .before .before .fill-top .kept .1 .0)), corner-empty (c .before .before .before .before .before .before .before .before .args .cap) (c .before .before .before .before .before .before .before .before .pre .columns) (c .before .before .before .before .before .before .before .before .pre .few) (c .before .before .before .fill-top .last .1 .0) (c .before .before .before .fill-top .ensures))
+
+-- src/lib.rt:143:5
+loop-holds : tie.Need-loop-holds Inv-loop μ-loop
+loop-holds c = table-start (c .before .before .before .before .before .before .before .before .before .before .before .args .cap) (c .before .before .before .before .before .before .before .before .before .before .before .pre .columns) (c .before .before .before .before .before .before .before .before .before .before .before .pre .few) (c .before .before .before .before .before .before .fill-top .ensures) (omega (arith, c .before .before .before .before .before .before .before .before .before .before .before .pre .room, c .before .before .before .before .before .before .fill-top .kept .1 .0, c .before .before .fill-side .kept .1 .0)) (c .before .before .fill-side .ensures)
+
+-- src/lib.rt:144:9
+fill-row-requires : tie.Need-fill-row-requires Inv-loop μ-loop
+fill-row-requires c κs = row-asks (c .before .before .before .before .before .before .before .before .before .before .before .before .before .before .args .cap) (c .before .before .before .before .before .before .before .before .before .before .before .before .before .before .pre .columns) (c .before .before .before .before .before .before .before .before .before .before .before .before .before .before .pre .few) (c .before .before .loop .inv) (c .before .loop-test .taken)
+
+-- src/lib.rt:145:9
+add-p : tie.Need-add-p Inv-loop μ-loop
+add-p c = omega arith
+
+-- src/lib.rt:143:5
+loop-less : tie.Need-loop-less Inv-loop μ-loop
+loop-less c = omega arith
+
+-- src/lib.rt:143:5
+loop-again : tie.Need-loop-again Inv-loop μ-loop
+loop-again c = row-filled (c .before .before .before .before .before .before .before .before .before .before .before .before .before .before .before .before .before .args .cap) (c .before .before .before .before .before .before .before .before .before .before .before .before .before .before .before .before .before .pre .columns) (c .before .before .before .before .before .before .before .before .before .before .before .before .before .before .before .before .before .pre .few) (c .before .before .before .before .before .loop .inv) (c .before .before .fill-row .kept .1 .1 .0) (c .before .before .before .before .loop-test .taken) (c .before .before .fill-row .ensures)
+
+-- src/lib.rt:135:1
+same-length : tie.Need-same-length Inv-loop μ-loop
+same-length c = c .before .loop .inv .long ∙ c .before .before .before .before .fill-side .kept .1 .0 ∙ c .before .before .before .before .before .before .before .before .fill-top .kept .1 .0
+
+-- src/lib.rt:135:1
+returns : tie.Need-returns Inv-loop μ-loop
+returns c = table-ends (c .before .before .before .before .before .before .before .before .before .before .before .before .before .args .cap) (c .before .before .before .before .before .before .before .before .before .before .before .before .before .pre .columns) (c .before .before .before .before .before .before .before .before .before .before .before .before .before .pre .few) (c .before .loop .inv) (c .loop-test .left)
+
+pub fill-spec : {M : Type 1} → statement M
+fill-spec =
+    tie.close
+    (tie.spec
+    Inv-loop
+    μ-loop
+    fill-top-requires
+    fill-side-requires
+    loop-holds
+    fill-row-requires
+    add-p
+    loop-less
+    loop-again
+    same-length
+    returns)
