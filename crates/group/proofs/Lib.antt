@@ -5,3 +5,5 @@ pub mod Falls
 pub mod Reach
 pub mod Exact
 pub mod Laws
+pub mod Bare
+pub mod Indices

@@ -10,11 +10,12 @@ use Rattle.terms.proofs.Tabulate.{tabulate-length}
 use Rattle.group.specs.Group.{flatHeight, foldHeight, lowest, leastHeight, FoldPoint}
 use Rattle.group.specs.Group.FoldPoint.{nowhere, behind}
 use Rattle.group.specs.Table.{Filled}
-use Rattle.group_table.proofs.Laws.{at-le}
+use Rattle.group.proofs.Indices.{at-le}
 use Rattle.group_height.specs.Heights.{HeightAsks}
 use Rattle.group_height.specs.Inner.{flatBy, foldBy, PassAsks, Point, Pass}
 use Rattle.group_height.specs.Inner.Point.{flat, fold}
-use Rattle.group_height.proofs.Gaps.{rows-bare, tall-entry, gap-behind, gap-behind-all}
+use Rattle.group.proofs.Bare.{rows-bare}
+use Rattle.group_height.proofs.Gaps.{tall-entry, gap-behind, gap-behind-all}
 
 lowest-next : (a : ℕ) (f : ℕ → ℕ) (p : ℕ) → 0 < p → lowest a f (p + 1 - 1) ≡ min (lowest a f (p - 1)) (f p)
 unfolding lowest

@@ -11,7 +11,7 @@ use Rattle.terms.specs.Component.{componentIn}
 use Rattle.group.specs.Table.{entry, Columns, Filled}
 use Rattle.group.proofs.Chains.{order}
 use Rattle.group_table.specs.Inner.{Right, Ready, RowAsks, RowDone, Low, TopDone, SideDone}
-use Rattle.group_table.proofs.Laws.{corner, top-next, side-next}
+use Rattle.group.proofs.Indices.{corner, top-next, side-next}
 
 -- Row p is filled down to column q.
 pub record Row (hs ws old es : List ℕ) (cap p q : ℕ) : Type 0 where

@@ -15,7 +15,7 @@ use Rattle.group.specs.Group.{leftSide, rightSide}
 use Rattle.group.specs.Table.{bare, entry}
 use Rattle.group.proofs.Chains.{order}
 use Rattle.group_table.specs.Inner.{Sharing, Ready, Ending, Ended}
-use Rattle.group_table.proofs.Laws.{at-top, at-side, at-left, at-right, at-clash, at-le}
+use Rattle.group.proofs.Indices.{at-top, at-side, at-left, at-right, at-clash, at-le}
 
 -- The answers of `beside`.
 module _ (ws : List ℕ) (cap p q : ℕ) where

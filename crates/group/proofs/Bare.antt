@@ -6,15 +6,15 @@ use mathlib.Core.List.{List, [], _∷_, _++_, map, reverseAux}
 use lib.ListN.{length, take, drop}
 use Rattle.terms.specs.declared.Component.{Component}
 use Rattle.terms.specs.Component.{tabulate, componentIn, componentsIn}
 use Rattle.group.specs.Rows.{ht, wd, tall, rows, Starts, packed, putLeft, putRight, place}
 use Rattle.group.specs.Group.{leftSide, rightSide, groupPlaces}
 use Rattle.group.specs.Table.{bare}
 use Rattle.group.proofs.Chains.{order, rows-left, rows-right, rows-clash, place-left, place-right, place-left-first, place-right-first}
 
 abbrev pub gapless : Component → Component
 gapless x = record { height = record { 0 = x .height .0 }; width = record { 0 = x .width .0 }; gap = record { 0 = 0 } }
 
-tall-bare : (l : List Component) → tall (map gapless l) ≡ tall l
+pub tall-bare : (l : List Component) → tall (map gapless l) ≡ tall l
 unfolding tall
 tall-bare [] = refl
 tall-bare (x ∷ l) = ap (λ (k : ℕ). ht x + k) (tall-bare l)
@@ -115,3 +115,15 @@ places-gapless cap m p cs = rw (left-gapless p cs, right-gapless p cs, place-gap
 
 pub places-bare : (cap m p : ℕ) (hs ws gs : List ℕ) → groupPlaces cap (componentsIn hs ws gs) m p ≡ groupPlaces cap (bare hs ws) m p
 places-bare cap m p hs ws gs = rw (bare-is hs ws gs) (sym (places-gapless cap m p (componentsIn hs ws gs)))
+
+-- The same over the lists of a group.
+module _ (hs ws gs : List ℕ) where
+  left-bare : (p : ℕ) → leftSide p (bare hs ws) ≡ map gapless (leftSide p (componentsIn hs ws gs))
+  left-bare p = ap (leftSide p) (bare-is hs ws gs) ∙ left-gapless p (componentsIn hs ws gs)
+
+  right-bare : (p : ℕ) → rightSide p (bare hs ws) ≡ map gapless (rightSide p (componentsIn hs ws gs))
+  right-bare p = ap (rightSide p) (bare-is hs ws gs) ∙ right-gapless p (componentsIn hs ws gs)
+
+  pub rows-bare : (cap a b p q : ℕ)
+      → rows cap a b (leftSide p (componentsIn hs ws gs)) (rightSide q (componentsIn hs ws gs)) ≡ rows cap a b (leftSide p (bare hs ws)) (rightSide q (bare hs ws))
+  rows-bare cap a b p q = rw (left-bare p, right-bare q) (sym (rows-gapless cap (leftSide p (componentsIn hs ws gs)) (rightSide q (componentsIn hs ws gs)) a b))
