@@ -11,6 +11,8 @@ ghost use Rattle.folding.specs.Legal.{inRange, onSide, sameGroup, inOrde
 ghost use Rattle.folding.specs.Outline.{greatest, groupWidth, groupHeight};
 ghost use Rattle.folding.specs.Calls.{measuredAnswer, measureIn, measureOf, chooseOf, secondWins};
 ghost use Rattle.folding.specs.Inner.{placedAt, placedIn, groupAt, sideAt, startAt, endAt, shareAt, sumAt, Listed, Low, GroupEnd, Lefts, GroupFlat, GroupIn, outlineIn, StackIn, FirstIn, Legalised, winnerIs};
+use numbers::larger;
+use numbers::wide;
 use terms::Component;
 use terms::Counted;
 use terms::Kind;
@@ -38,22 +40,6 @@ pub struct Outline {
 pub enum Measured {
     Outlined(Outline),
     Refused(Refusal),
-}
-
-fn wide(x: u16) -> u32
-    ensures { λ r. ⌜ r ≡ x ⌝ }
-    ensures { λ r. ⌜ r < 65536 ⌝ }
-{
-    x as u32
-}
-
-fn larger(a: u32, b: u32) -> u32
-    ensures { λ r. ⌜ r ≡ max a b ⌝ }
-{
-    if a < b {
-        return b;
-    }
-    a
 }
 
 fn placed_at(heights: &[u16], widths: &[u16], gaps: &[u16], flat: &[u32], i: usize) -> Placed

@@ -9,6 +9,8 @@ ghost use Rattle.group.specs.Group.{leastHeight, FoldPoint};
 ghost use Rattle.group.specs.Table.{Filled};
 ghost use Rattle.group_height.specs.Heights.{HeightAsks, WidthAsks, Narrow};
 ghost use Rattle.group_height.specs.Inner.{PassAsks, Pass};
+use numbers::get;
+use numbers::larger;
 
 pub struct Fit {
     pub width: u32,
@@ -19,30 +21,6 @@ pub struct Fit {
 struct Reached {
     height: u32,
     at: usize,
-}
-
-fn wide(x: u16) -> u32
-    ensures { λ r. ⌜ r ≡ x ⌝ }
-    ensures { λ r. ⌜ r < 65536 ⌝ }
-{
-    x as u32
-}
-
-fn get(s: &[u16], i: usize) -> u32
-    requires { ⌜ i < length (now s) ⌝ }
-    ensures { λ r. ⌜ r ≡ getD (now (s .entry)) i 0 ⌝ }
-    ensures { λ r. ⌜ r < 65536 ⌝ }
-{
-    wide(s[i])
-}
-
-fn larger(a: u32, b: u32) -> u32
-    ensures { λ r. ⌜ r ≡ max a b ⌝ }
-{
-    if a < b {
-        return b;
-    }
-    a
 }
 
 fn fold_cell(e: &[u32], p: usize) -> u32

@@ -6,37 +6,9 @@ ghost use lib.ListN.{length, getD};
 ghost use Rattle.group.specs.Table.{entry, Filled};
 ghost use Rattle.group_table.specs.Table.{Asks};
 ghost use Rattle.group_table.specs.Inner.{Sharing, Ready, Ending, Ended, RowAsks, RowDone, Low, TopDone, SideDone};
-
-fn wide(x: u16) -> u32
-    ensures { λ r. ⌜ r ≡ x ⌝ }
-    ensures { λ r. ⌜ r < 65536 ⌝ }
-{
-    x as u32
-}
-
-fn get(s: &[u16], i: usize) -> u32
-    requires { ⌜ i < length (now s) ⌝ }
-    ensures { λ r. ⌜ r ≡ getD (now (s .entry)) i 0 ⌝ }
-    ensures { λ r. ⌜ r < 65536 ⌝ }
-{
-    wide(s[i])
-}
-
-fn lesser(a: u32, b: u32) -> u32
-    ensures { λ r. ⌜ r ≡ min a b ⌝ }
-{
-    if a < b {
-        return a;
-    }
-    b
-}
-
-fn cell(e: &[u32], p: usize, q: usize) -> u32
-    requires { ⌜ (p ≤ 64) × (q ≤ 64) × (4225 ≤ length (now e)) ⌝ }
-    ensures { λ r. ⌜ r ≡ getD (now (e .entry)) (p * 65 + q) 0 ⌝ }
-{
-    e[p * 65 + q]
-}
+use numbers::cell;
+use numbers::get;
+use numbers::lesser;
 
 // Whether two components stand beside each other at the ends of a walk.
 fn beside(w: &[u16], p: usize, q: usize, cap: u32) -> bool

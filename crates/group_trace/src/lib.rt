@@ -6,34 +6,14 @@ ghost use lib.ListN.{length, getD, take, drop};
 ghost use Rattle.group.specs.Group.{groupPlaces};
 ghost use Rattle.group.specs.Table.{bare, flatOf};
 ghost use Rattle.group_trace.specs.Trace.{WriteAsks, TurnAsks, Turned};
+use numbers::cell;
+use numbers::get;
 
 // Which side the next component goes to, and the rows where the sides go on.
 struct Turn {
     left: bool,
     a: u32,
     b: u32,
-}
-
-fn wide(x: u16) -> u32
-    ensures { λ r. ⌜ r ≡ x ⌝ }
-    ensures { λ r. ⌜ r < 65536 ⌝ }
-{
-    x as u32
-}
-
-fn get(column: &[u16], i: usize) -> u32
-    requires { ⌜ i < length (now column) ⌝ }
-    ensures { λ r. ⌜ r ≡ getD (now (column .entry)) i 0 ⌝ }
-    ensures { λ r. ⌜ r < 65536 ⌝ }
-{
-    wide(column[i])
-}
-
-fn cell(e: &[u32], p: usize, q: usize) -> u32
-    requires { ⌜ (p ≤ 64) × (q ≤ 64) × (4225 ≤ length (now e)) ⌝ }
-    ensures { λ r. ⌜ r ≡ getD (now (e .entry)) (p * 65 + q) 0 ⌝ }
-{
-    e[p * 65 + q]
 }
 
 // Both sides have components left: the lower one goes first where the two fit side by side, else the one that leaves the fewer rows.

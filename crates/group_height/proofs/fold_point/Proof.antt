@@ -1,7 +1,6 @@
 use Rattle.group_height.proofs.Passing.{pass-asks, is-point}
 use Rattle.group_height.proofs.fold_point.Statement.{statement}
 use Rattle.group_height.proofs.fold_point.Tie as tie
-use Rattle.group_height.proofs.over_folds.Reads as over-folds-reads
 
 -- src/lib.rt:90:9
 over-folds-requires : tie.Need-over-folds-requires

@@ -1,8 +1,6 @@
 use Rattle.group_height.proofs.Passing.{pass-asks, is-least}
 use Rattle.group_height.proofs.least_height.Statement.{statement}
 use Rattle.group_height.proofs.least_height.Tie as tie
-use Rattle.group_height.proofs.over_folds.Reads as over-folds-reads
-use Rattle.group_table.proofs.fill.Reads as fill-reads
 
 -- src/lib.rt:81:5
 fill-requires : tie.Need-fill-requires

@@ -4,7 +4,6 @@ use native.Mathlib.Omega.{arith}
 use mathlib.Core.Path.{_∙_}
 use Rattle.group_height.proofs.narrowest.Statement.{statement}
 use Rattle.group_height.proofs.narrowest.Tie as tie
-use Rattle.group_height.proofs.least_height.Reads as least-height-reads
 
 abbrev Inv-loop : tie.InvT-loop
 Inv-loop g0 h w g e₀ limit widest cap v₀ lo₀ hi₀ e v lo hi = Halving g0 h w g e₀ e limit widest cap lo hi v

@@ -6,9 +6,6 @@ use native.Mathlib.Omega.{arith}
 use borrow.Author.Needs.{needs}
 use Rattle.group_height.proofs.over_folds.Statement.{statement}
 use Rattle.group_height.proofs.over_folds.Tie as tie
-use Rattle.group_height.proofs.fold_cell.Reads as fold-cell-reads
-use Rattle.group_height.proofs.get.Reads as get-reads
-use Rattle.group_height.proofs.larger.Reads as larger-reads
 
 abbrev Inv-loop : tie.InvT-loop
 Inv-loop g0 g e m last most v₀ at₀ p₀ v at p = Passing g0 g e v at p

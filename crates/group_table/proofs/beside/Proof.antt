@@ -4,7 +4,6 @@ use borrow.Author.Needs.{needs}
 use borrow.Author.Needs.{needs}
 use Rattle.group_table.proofs.beside.Statement.{statement}
 use Rattle.group_table.proofs.beside.Tie as tie
-use Rattle.group_table.proofs.get.Reads as get-reads
 
 -- src/lib.rt:47:9
 returns : tie.Need-returns

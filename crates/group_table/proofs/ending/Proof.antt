@@ -5,9 +5,6 @@ use borrow.Author.Needs.{needs}
 use borrow.Author.Needs.{needs}
 use Rattle.group_table.proofs.ending.Statement.{statement}
 use Rattle.group_table.proofs.ending.Tie as tie
-use Rattle.group_table.proofs.cell.Reads as cell-reads
-use Rattle.group_table.proofs.get.Reads as get-reads
-use Rattle.group_table.proofs.lesser.Reads as lesser-reads
 
 -- src/lib.rt:61:20
 mul-result : tie.Need-mul-result

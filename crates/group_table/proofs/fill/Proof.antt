@@ -5,9 +5,6 @@ use native.Mathlib.Omega.{arith}
 use mathlib.Core.Path.{_∙_}
 use Rattle.group_table.proofs.fill.Statement.{statement}
 use Rattle.group_table.proofs.fill.Tie as tie
-use Rattle.group_table.proofs.fill_row.Reads as fill-row-reads
-use Rattle.group_table.proofs.fill_side.Reads as fill-side-reads
-use Rattle.group_table.proofs.fill_top.Reads as fill-top-reads
 
 abbrev Inv-loop : tie.InvT-loop
 Inv-loop h w e₀ cap m p₀ e p = Tabling h w e₀ e cap p

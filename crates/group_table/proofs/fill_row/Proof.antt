@@ -3,7 +3,6 @@ use native.Mathlib.Omega.{arith}
 use borrow.Author.Needs.{needs}
 use Rattle.group_table.proofs.fill_row.Statement.{statement}
 use Rattle.group_table.proofs.fill_row.Tie as tie
-use Rattle.group_table.proofs.walk.Reads as walk-reads
 
 abbrev Inv-loop : tie.InvT-loop
 Inv-loop h w e₀ p cap q₀ e q = Row h w e₀ e cap p q

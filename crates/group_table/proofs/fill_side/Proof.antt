@@ -5,7 +5,6 @@ use native.Mathlib.Omega.{arith}
 use borrow.Author.Needs.{needs}
 use Rattle.group_table.proofs.fill_side.Statement.{statement}
 use Rattle.group_table.proofs.fill_side.Tie as tie
-use Rattle.group_table.proofs.get.Reads as get-reads
 
 abbrev Inv-loop : tie.InvT-loop
 Inv-loop h e₀ m p₀ e p = Side h e₀ e p

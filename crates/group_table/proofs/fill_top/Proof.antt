@@ -5,7 +5,6 @@ use mathlib.Core.Path.{_∙_}
 use borrow.Author.Needs.{needs}
 use Rattle.group_table.proofs.fill_top.Statement.{statement}
 use Rattle.group_table.proofs.fill_top.Tie as tie
-use Rattle.group_table.proofs.get.Reads as get-reads
 
 abbrev Inv-loop : tie.InvT-loop
 Inv-loop h e₀ q₀ e q = Top h e₀ e q

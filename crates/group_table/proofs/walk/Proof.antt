@@ -5,9 +5,6 @@ use native.Mathlib.Omega.{arith}
 use borrow.Author.Needs.{needs}
 use Rattle.group_table.proofs.walk.Statement.{statement}
 use Rattle.group_table.proofs.walk.Tie as tie
-use Rattle.group_table.proofs.beside.Reads as beside-reads
-use Rattle.group_table.proofs.ending.Reads as ending-reads
-use Rattle.group_table.proofs.get.Reads as get-reads
 
 abbrev Inv-loop : tie.InvT-loop
 Inv-loop h w e p q cap x₀ y₀ a₀ b₀ x y a b = Walking h w p q cap x y a b

@@ -3,8 +3,6 @@ use native.Mathlib.Omega.{arith}
 use borrow.Author.Needs.{needs}
 use Rattle.group_trace.proofs.meet.Statement.{statement}
 use Rattle.group_trace.proofs.meet.Tie as tie
-use Rattle.group_trace.proofs.cell.Reads as cell-reads
-use Rattle.group_trace.proofs.get.Reads as get-reads
 
 sub-x : tie.Need-sub-x
 sub-x c = search needs

@@ -3,8 +3,6 @@ use native.Mathlib.Omega.{arith}
 use borrow.Author.Needs.{needs}
 use Rattle.group_trace.proofs.next.Statement.{statement}
 use Rattle.group_trace.proofs.next.Tie as tie
-use Rattle.group_trace.proofs.get.Reads as get-reads
-use Rattle.group_trace.proofs.meet.Reads as meet-reads
 
 get-requires : tie.Need-get-requires
 get-requires c κs = search needs

@@ -4,8 +4,6 @@ use lib.ListN.{length}
 use Rattle.group_trace.proofs.Writing.{Writing, start, asks, left-more, right-more, ended, left-room, right-room}
 use Rattle.group_trace.proofs.write_group.Statement.{statement}
 use Rattle.group_trace.proofs.write_group.Tie as tie
-use Rattle.group_trace.proofs.next.Reads as next-reads
-use Rattle.group_trace.proofs.put.Reads as put-reads
 
 abbrev Inv-loop : tie.InvT-loop
 Inv-loop h w e out₀ group p cap left₀ right₀ a₀ b₀ out left right a b = Writing h w out₀ group p cap out left right a b

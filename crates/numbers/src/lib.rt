@@ -1,0 +1,44 @@
+// Small functions on numbers, columns of 16-bit numbers and tables with 65 entries a row.
+ghost use mathlib.Core.Path.{_≡_};
+ghost use Prim.Native.Nat.{_+_, _*_, _≤_, _<_, min, max};
+ghost use lib.ListN.{length, getD};
+
+pub fn wide(x: u16) -> u32
+    ensures { λ r. ⌜ r ≡ x ⌝ }
+    ensures { λ r. ⌜ r < 65536 ⌝ }
+{
+    x as u32
+}
+
+pub fn get(column: &[u16], i: usize) -> u32
+    requires { ⌜ i < length (now column) ⌝ }
+    ensures { λ r. ⌜ r ≡ getD (now (column .entry)) i 0 ⌝ }
+    ensures { λ r. ⌜ r < 65536 ⌝ }
+{
+    wide(column[i])
+}
+
+pub fn cell(table: &[u32], p: usize, q: usize) -> u32
+    requires { ⌜ (p ≤ 64) × (q ≤ 64) × (4225 ≤ length (now table)) ⌝ }
+    ensures { λ r. ⌜ r ≡ getD (now (table .entry)) (p * 65 + q) 0 ⌝ }
+{
+    table[p * 65 + q]
+}
+
+pub fn lesser(a: u32, b: u32) -> u32
+    ensures { λ r. ⌜ r ≡ min a b ⌝ }
+{
+    if a < b {
+        return a;
+    }
+    b
+}
+
+pub fn larger(a: u32, b: u32) -> u32
+    ensures { λ r. ⌜ r ≡ max a b ⌝ }
+{
+    if a < b {
+        return b;
+    }
+    a
+}
