@@ -1,0 +1,42 @@
+-- The best layouts with at most k components in the first group.
+use Prim.Native.Nat.{ℕ, suc, _≤_, _<_}
+use mathlib.Core.Path.{_≡_, refl, ap, _∙_}
+use mathlib.Core.List.{List, [], _∷_}
+use native.Mathlib.Omega.{arith}
+use lib.ListN.{length, getD, take, drop}
+use lib.Seq.{getD-drop}
+use Rattle.terms.specs.declared.Component.{Component}
+use Rattle.terms.specs.declared.Kind.{Kind}
+use Rattle.terms.specs.declared.Kind.the-variants.{Apart, Nested}
+use Rattle.group.specs.Rows.{tall}
+use Rattle.layout.specs.Layout.{Layout, unmet, candidate, choice, scan, layouts, layoutOf}
+use Rattle.layout.proofs.Widths.{TooTall}
+use Rattle.layout.proofs.Prune.{Fair, scan-fair, scan-stop}
+use Rattle.plan.specs.Asks.{bestTo, mostRows}
+
+too-tall : (kind : Kind) (limit : ℕ) (cs : List Component) → mostRows kind limit < tall cs → TooTall kind limit cs
+too-tall Apart limit cs h = h
+too-tall Nested limit cs h = h
+
+module _ (kind : Kind) (limit g0 : ℕ) (cs : List Component) where
+  pub best-none : bestTo kind limit g0 cs 0 ≡ unmet
+  unfolding scan
+  best-none = refl
+
+  pub best-fair : (k : ℕ) → Fair (bestTo kind limit g0 cs k)
+  best-fair k = scan-fair kind limit g0 cs (drop 1 (layouts kind limit g0 cs)) k
+
+  pub best-more : (k : ℕ)
+      → bestTo kind limit g0 cs (suc k) ≡ choice (candidate kind limit g0 (take (suc k) cs) (getD (layouts kind limit g0 cs) (suc k) unmet) (suc k)) (bestTo kind limit g0 cs k)
+  unfolding scan
+  best-more k =
+      ap (λ (z : Layout). choice (candidate kind limit g0 (take (suc k) cs) z (suc k)) (bestTo kind limit g0 cs k))
+      (getD-drop 1 (layouts kind limit g0 cs) k unmet ∙ ap (λ (z : ℕ). getD (layouts kind limit g0 cs) z unmet) (omega arith))
+
+  pub best-stop : (j k : ℕ) → k ≤ j → mostRows kind limit < tall (take (suc k) cs) → bestTo kind limit g0 cs j ≡ bestTo kind limit g0 cs k
+  best-stop j k h t = scan-stop kind limit g0 cs (drop 1 (layouts kind limit g0 cs)) k j (too-tall kind limit (take (suc k) cs) t) h
+
+pub best-of-all : (kind : Kind) (limit g0 : ℕ) (cs : List Component) → 0 < length cs → bestTo kind limit g0 cs (length cs) ≡ layoutOf kind limit g0 cs
+unfolding layouts
+best-of-all kind limit g0 [] h = absurd (omega arith)
+best-of-all kind limit g0 (x ∷ cs) h = refl

@@ -1,0 +1,6 @@
+pub mod Columns
+pub mod Gaps
+pub mod Bests
+pub mod Trying
+pub mod Scanning
+pub mod Planning

@@ -1,0 +1,140 @@
+-- The plan, from the last component to the first.
+use Prim.Native.Nat.{ℕ, zero, suc, _+_, _-_, _≤_, _<_}
+use mathlib.Core.Path.{_≡_, refl, sym, ap, _∙_}
+use mathlib.Core.Logic.{_⊎_, inl, inr}
+use mathlib.Core.List.{List, [], _∷_}
+use native.Mathlib.Nat.{eq-or-lt-of-le}
+use native.Mathlib.Omega.{arith}
+use lib.ListN.{length, getD, take, drop, set, length-set, length-drop}
+use lib.Seq.{getD-drop, getD-set-same, getD-set-other}
+use Rattle.terms.specs.declared.Component.{Component}
+use Rattle.terms.specs.declared.Kind.{Kind}
+use Rattle.terms.specs.Component.{componentIn, componentsIn}
+use Rattle.terms.proofs.Parts.{from}
+use Rattle.group.specs.Rows.{gap}
+use Rattle.layout.specs.Layout.{Layout, unmet, empty, layouts, layoutOf}
+use Rattle.layout.specs.Plan.{PlannedAt, Planned}
+use Rattle.plan.specs.declared.Best.{Best}
+use Rattle.plan.specs.Asks.{layoutIn, Later, FirstAsks, FromAsks, PlanAsks, PlannedFrom, gapBefore}
+use Rattle.plan.proofs.Gaps.{gap-near}
+use Rattle.plan.proofs.Columns.{components-length, component-at, components-drop}
+use Rattle.plan.proofs.Scanning.{lists-drop}
+
+module _ (kind : Kind) (limit : ℕ) where
+  pub layouts-drop : (cs : List Component) (g0 k : ℕ) (d : Component) → k < length cs → drop (suc k) (layouts kind limit g0 cs) ≡ layouts kind limit (gap (getD cs k d)) (drop (suc k) cs)
+  unfolding layouts
+  layouts-drop [] g0 k d h = absurd (omega arith)
+  layouts-drop (x ∷ cs) g0 zero d h = refl
+  layouts-drop (x ∷ cs) g0 (suc k) d h = layouts-drop cs (gap x) k d (omega arith)
+
+  pub layouts-end : (cs : List Component) (g0 : ℕ) → getD (layouts kind limit g0 cs) (length cs) unmet ≡ empty
+  unfolding layouts
+  layouts-end [] g0 = refl
+  layouts-end (x ∷ cs) g0 = layouts-end cs (gap x)
+
+  rest-drop : (hs ws gs : List ℕ) (i : ℕ) → i ≤ length hs
+      → layouts kind limit (gapBefore gs i) (componentsIn (drop i hs) (drop i ws) (drop i gs)) ≡ drop i (layouts kind limit 0 (componentsIn hs ws gs))
+  rest-drop hs ws gs zero h = refl
+  rest-drop hs ws gs (suc i) h =
+      rw (components-drop hs ws gs (suc i) h)
+      (sym (layouts-drop (componentsIn hs ws gs) 0 i (componentIn [] [] [] 0) (omega (arith, components-length hs ws gs))
+      ∙ rw (component-at hs ws gs i (omega arith))))
+
+module _ {kind : Kind} {limit i : ℕ} {hs ws gs widths heights es : List ℕ} (a : FromAsks kind limit i hs ws gs widths heights es) where
+  abbrev all : List Layout
+  all = layouts kind limit 0 (componentsIn hs ws gs)
+
+  rest : layouts kind limit (gapBefore gs i) (componentsIn (drop i hs) (drop i ws) (drop i gs)) ≡ drop i (layouts kind limit 0 (componentsIn hs ws gs))
+  rest = rest-drop kind limit hs ws gs i (omega (arith, a .within))
+
+  rest-at : (k : ℕ) → getD (layouts kind limit (gapBefore gs i) (componentsIn (drop i hs) (drop i ws) (drop i gs))) k unmet ≡ getD (layouts kind limit 0 (componentsIn hs ws gs)) (i + k) unmet
+  rest-at k = rw rest (getD-drop i all k unmet)
+
+  few : length (componentsIn (drop i hs) (drop i ws) (drop i gs)) ≡ length hs - i
+  few = components-length (drop i hs) (drop i ws) (drop i gs) ∙ length-drop i hs
+
+  later : Later kind limit (gapBefore gs i) (componentsIn (drop i hs) (drop i ws) (drop i gs)) (drop (i + 1) widths) (drop (i + 1) heights)
+  later = record {
+    width-is = λ k h.
+        rw (getD-drop (i + 1) widths k 0, rest-at (suc k))
+        (a .width-is (i + 1 + k) (omega arith) (omega (arith, few)) ∙ ap (λ (z : ℕ). getD all z unmet .width) (omega arith));
+    height-is = λ k h.
+        rw (getD-drop (i + 1) heights k 0, rest-at (suc k))
+        (a .height-is (i + 1 + k) (omega arith) (omega (arith, few)) ∙ ap (λ (z : ℕ). getD all z unmet .height) (omega arith));
+  }
+
+  first-drops : FirstAsks kind limit (gapBefore gs i) (drop i hs) (drop i ws) (drop i gs) (drop (i + 1) widths) (drop (i + 1) heights) es
+  first-drops = record {
+    lists = lists-drop kind hs ws gs i (omega (arith, a .within)) (a .lists);
+    some = omega (arith, length-drop i hs, a .within);
+    limit-most = a .limit-most;
+    before = gap-near gs i (a .lists .near);
+    widths-long = omega (arith, length-drop i hs, length-drop (i + 1) widths, a .widths-long, a .within);
+    heights-long = omega (arith, length-drop i hs, length-drop (i + 1) heights, a .heights-long, a .within);
+    room = a .room;
+    later = later;
+  }
+
+  module _ (g0 : ℕ) (eg : g0 ≡ gapBefore gs i) where
+    pub first-asks : FirstAsks kind limit g0 (take (length hs - i) (drop i hs)) (take (length ws - i) (drop i ws)) (take (length gs - i) (drop i gs)) (take (length widths - (i + 1)) (drop (i + 1) widths)) (take (length heights - (i + 1)) (drop (i + 1) heights)) es
+    first-asks = rw (from i hs, from i ws, from i gs, from (i + 1) widths, from (i + 1) heights, eg) first-drops
+
+    pub first-is : (r : Layout) → r ≡ layoutOf kind limit g0 (componentsIn (take (length hs - i) (drop i hs)) (take (length ws - i) (drop i ws)) (take (length gs - i) (drop i gs)))
+        → r ≡ getD (layouts kind limit 0 (componentsIn hs ws gs)) i unmet
+    first-is r e =
+        e
+        ∙ rw (from i hs, from i ws, from i gs, eg) (rest-at 0 ∙ ap (λ (z : ℕ). getD all z unmet) (omega arith))
+
+-- The three lists that are filled, at the lengths of the beginning.
+module _ {kind : Kind} {limit : ℕ} {hs ws gs widths₀ heights₀ ends₀ es₀ : List ℕ} (a : PlanAsks kind limit hs ws gs widths₀ heights₀ ends₀ es₀) where
+  abbrev cs : List Component
+  cs = componentsIn hs ws gs
+
+  long : length (componentsIn hs ws gs) ≡ length hs
+  long = components-length hs ws gs
+
+  at-end : getD (layouts kind limit 0 (componentsIn hs ws gs)) (length hs) unmet ≡ empty
+  at-end = ap (λ (z : ℕ). getD (layouts kind limit 0 cs) z unmet) (sym long) ∙ layouts-end kind limit cs 0
+
+  pub plan-start : PlannedFrom kind limit (componentsIn hs ws gs) (set widths₀ (length hs) 0) (set heights₀ (length hs) 0) (set ends₀ (length hs) 0) (length hs)
+  plan-start = record {
+    at = λ j h k.
+        let e : j ≡ length hs = omega (arith, long) in
+        rw (e, at-end) (record {
+          width-is = getD-set-same widths₀ (length hs) 0 0 (a .widths-long);
+          height-is = getD-set-same heights₀ (length hs) 0 0 (a .heights-long);
+          end-is = getD-set-same ends₀ (length hs) 0 0 (a .ends-long);
+        });
+  }
+
+  module _ {widths heights ends : List ℕ} {later : ℕ} (s : PlannedFrom kind limit (componentsIn hs ws gs) widths heights ends later)
+      (lw : length widths ≡ length (set widths₀ (length hs) 0)) (lh : length heights ≡ length (set heights₀ (length hs) 0)) (le : length ends ≡ length (set ends₀ (length hs) 0)) where
+    pub plan-done : later ≡ 0 → Planned kind limit 0 (componentsIn hs ws gs) widths heights ends
+    plan-done e = record { at = λ j h. s .at j (omega arith) h }
+
+    module _ (i : ℕ) (e : i + 1 ≡ later) (o : later ≤ length hs) where
+      pub from-asks : (es : List ℕ) → length es ≡ length es₀ → FromAsks kind limit i hs ws gs widths heights es
+      from-asks es l = record {
+        lists = a .lists;
+        within = omega arith;
+        limit-most = a .limit-most;
+        widths-long = omega (arith, a .widths-long, length-set widths₀ (length hs) 0);
+        heights-long = omega (arith, a .heights-long, length-set heights₀ (length hs) 0);
+        room = omega (arith, a .room);
+        width-is = λ j h k. s .at j (omega arith) (omega (arith, long)) .width-is;
+        height-is = λ j h k. s .at j (omega arith) (omega (arith, long)) .height-is;
+      }
+
+      pub plan-more : (b : Best) → layoutIn b ≡ getD (layouts kind limit 0 (componentsIn hs ws gs)) i unmet
+          → PlannedFrom kind limit (componentsIn hs ws gs) (set widths i (b .width)) (set heights i (b .height)) (set ends i (b .end)) i
+      plan-more b f = record { at = λ j h k. go j k (eq-or-lt-of-le h) }
+        where
+          go : (j : ℕ) → j ≤ length cs → (i ≡ j) ⊎ (i < j) → PlannedAt (getD (layouts kind limit 0 cs) j unmet) (getD (set widths i (b .width)) j 0) (getD (set heights i (b .height)) j 0) (getD (set ends i (b .end)) j 0)
+          go j k (inl q) = rw (← q, ← f) (record {
+            width-is = getD-set-same widths i (b .width) 0 (omega (arith, a .widths-long, length-set widths₀ (length hs) 0));
+            height-is = getD-set-same heights i (b .height) 0 (omega (arith, a .heights-long, length-set heights₀ (length hs) 0));
+            end-is = getD-set-same ends i (b .end) 0 (omega (arith, a .ends-long, length-set ends₀ (length hs) 0));
+          })
+          go j k (inr q) =
+              let n : j ≡ i → ⊥ = λ z. omega arith in
+              rw (getD-set-other widths i j (b .width) 0 n, getD-set-other heights i j (b .height) 0 n, getD-set-other ends i j (b .end) 0 n) (s .at j (omega arith) k)

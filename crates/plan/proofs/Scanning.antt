@@ -1,0 +1,143 @@
+-- The search over all first groups.
+use Prim.Native.Nat.{ℕ, zero, suc, _+_, _-_, _≤_, _<_, max}
+use mathlib.Core.Path.{_≡_, refl, sym, ap, subst, _∙_}
+use mathlib.Core.List.{List, [], _∷_}
+use native.Mathlib.Numerals.{add-one}
+use native.Mathlib.Omega.{arith}
+use lib.ListN.{length, getD, take, drop, length-drop}
+use lib.Seq.{length-take-le, getD-take, getD-drop}
+use Rattle.terms.specs.declared.Component.{Component}
+use Rattle.terms.specs.declared.Kind.{Kind}
+use Rattle.terms.specs.Component.{componentIn, componentsIn}
+use Rattle.group.specs.Rows.{tall}
+use Rattle.group.specs.Group.{none, widest}
+use Rattle.layout.specs.Layout.{Layout, unmet, candidate, choice, layouts, layoutOf}
+use Rattle.layout.specs.Plan.{StackLists}
+use Rattle.plan.specs.declared.Best.{Best}
+use Rattle.plan.specs.Asks.{layoutIn, GroupAsks, mostRows, FirstAsks, bestTo}
+use Rattle.plan.proofs.Columns.{components-length, component-at, components-take, tall-more, widest-more}
+use Rattle.layout.proofs.Scan.{no-wider}
+use Rattle.layout.proofs.Prune.{Fair}
+use Rattle.layout.proofs.Bounds.{layouts-fair}
+use Rattle.plan.proofs.Bests.{best-none, best-fair, best-more, best-stop, best-of-all}
+
+take-most : (k : ℕ) (l : List ℕ) (i m : ℕ) → getD l i 0 ≤ m → getD (take k l) i 0 ≤ m
+take-most zero l i m h = omega arith
+take-most (suc k) [] i m h = omega arith
+take-most (suc k) (x ∷ l) zero m h = h
+take-most (suc k) (x ∷ l) (suc i) m h = take-most k l i m h
+
+pub lists-take : (kind : Kind) (hs ws gs : List ℕ) (k : ℕ) → k ≤ length hs → StackLists kind hs ws gs → StackLists kind (take k hs) (take k ws) (take k gs)
+lists-take kind hs ws gs k h s =
+    let a : length (take k hs) ≡ k = length-take-le k hs h in
+    let b : length (take k ws) ≡ k = length-take-le k ws (omega (arith, s .same-widths)) in
+    let d : length (take k gs) ≡ k = length-take-le k gs (omega (arith, s .same-gaps)) in
+    record {
+      same-widths = b ∙ sym a;
+      same-gaps = d ∙ sym a;
+      few = omega (arith, s .few);
+      tall = λ i l. rw (getD-take k hs i 0 (omega arith)) (s .tall i (omega arith));
+      low = λ i. take-most k hs i 4000 (s .low i);
+      wide = λ i l. rw (getD-take k ws i 0 (omega arith)) (s .wide i (omega arith));
+      slim = λ i. take-most k ws i 4000 (s .slim i);
+      near = λ i. take-most k gs i 4000 (s .near i);
+    }
+
+pub lists-drop : (kind : Kind) (hs ws gs : List ℕ) (k : ℕ) → k ≤ length hs → StackLists kind hs ws gs → StackLists kind (drop k hs) (drop k ws) (drop k gs)
+lists-drop kind hs ws gs k h s =
+    let a : length (drop k hs) ≡ length hs - k = length-drop k hs in
+    record {
+      same-widths = omega (arith, length-drop k ws, s .same-widths);
+      same-gaps = omega (arith, length-drop k gs, s .same-gaps);
+      few = omega (arith, s .few);
+      tall = λ i l. rw (getD-drop k hs i 0) (s .tall (k + i) (omega arith));
+      low = λ i. rw (getD-drop k hs i 0) (s .low (k + i));
+      wide = λ i l. rw (getD-drop k ws i 0) (s .wide (k + i) (omega arith));
+      slim = λ i. rw (getD-drop k ws i 0) (s .slim (k + i));
+      near = λ i. rw (getD-drop k gs i 0) (s .near (k + i));
+    }
+
+same-rest : (kind : Kind) (limit g0 : ℕ) (cs : List Component) (p q : Layout) (k : ℕ) → p .width ≡ q .width → p .height ≡ q .height → candidate kind limit g0 cs p k ≡ candidate kind limit g0 cs q k
+same-rest kind limit g0 cs p q k e f = rw (e, f)
+
+-- All first groups of at most k components are searched.
+pub record Scanned (kind : Kind) (limit g0 : ℕ) (cs : List Component) (best : Best) (rows wide k : ℕ) : Type 0 where
+  pub within : k ≤ length cs
+  pub best-is : layoutIn best ≡ bestTo kind limit g0 cs k
+  pub tall-is : rows ≡ tall (take k cs)
+  pub low : rows ≤ 4000000
+  pub widest-is : wide ≡ widest (take k cs)
+
+module _ {kind : Kind} {limit g0 : ℕ} {hs ws gs widths heights es : List ℕ} (a : FirstAsks kind limit g0 hs ws gs widths heights es) where
+  abbrev cs : List Component
+  cs = componentsIn hs ws gs
+
+  long : length (componentsIn hs ws gs) ≡ length hs
+  long = components-length hs ws gs
+
+  pub scan-start : Scanned kind limit g0 (componentsIn hs ws gs) (record { width = 4000000; height = 4000000; end = 0 }) 0 0 0
+  unfolding tall widest
+  scan-start = record { within = omega arith; best-is = sym (best-none kind limit g0 cs); tall-is = refl; low = omega arith; widest-is = refl }
+
+  module _ {best : Best} {rows wide k : ℕ} (s : Scanned kind limit g0 (componentsIn hs ws gs) best rows wide k) where
+    pub scan-done : length hs ≤ k → layoutIn best ≡ layoutOf kind limit g0 (componentsIn hs ws gs)
+    scan-done h =
+        let e : k ≡ length cs = omega (arith, s .within, long) in
+        s .best-is ∙ ap (λ (z : ℕ). bestTo kind limit g0 cs z) e ∙ best-of-all kind limit g0 cs (omega (arith, long, a .some))
+
+    module _ (h : k < length hs) (x most : ℕ) (ex : x ≡ getD hs k 0) (em : most ≡ mostRows kind limit) where
+      rows-more : rows + x ≡ tall (take (suc k) (componentsIn hs ws gs))
+      rows-more =
+          let e : tall (take (suc k) cs) ≡ tall (take k cs) + getD hs k 0 = rw (component-at hs ws gs k h) at (tall-more cs k (componentIn [] [] [] 0) (omega (arith, long))) in
+          omega (arith, s .tall-is)
+
+      pub scan-stop : most < rows + x → layoutIn best ≡ layoutOf kind limit g0 (componentsIn hs ws gs)
+      scan-stop l =
+          s .best-is
+          ∙ sym (best-stop kind limit g0 cs (length cs) k (omega (arith, long)) (omega (arith, rows-more)))
+          ∙ best-of-all kind limit g0 cs (omega (arith, long))
+
+      module _ (l : rows + x ≤ most) (o : most ≤ 4000000) (y wider : ℕ) (ey : y ≡ getD ws k 0) (ew : wider ≡ max wide y) where
+        wide-more : wider ≡ widest (take (suc k) (componentsIn hs ws gs))
+        wide-more =
+            let e : widest (take (suc k) cs) ≡ max (widest (take k cs)) (getD ws k 0) = rw (component-at hs ws gs k h) at (widest-more cs k (componentIn [] [] [] 0) (omega (arith, long))) in
+            omega (arith, s .widest-is)
+
+        part : componentsIn (take (k + 1) hs) (take (k + 1) ws) (take (k + 1) gs) ≡ take (suc k) (componentsIn hs ws gs)
+        part = components-take hs ws gs (k + 1) (omega arith) ∙ ap (λ (z : ℕ). take z cs) (add-one k)
+
+        pub group-asks : (now : List ℕ) → length now ≡ length es
+            → (GroupAsks kind limit g0 wider (take (k + 1) hs) (take (k + 1) ws) (take (k + 1) gs) best (record { width = getD widths k 0; height = getD heights k 0; end = 0 }))
+            × (rows + x ≡ tall (componentsIn (take (k + 1) hs) (take (k + 1) ws) (take (k + 1) gs))) × (rows + x ≤ 4000000) × (8192 ≤ length now)
+        group-asks now n = (
+          record {
+            lists = lists-take kind hs ws gs (k + 1) (omega arith) (a .lists);
+            some = omega (arith, length-take-le (k + 1) hs (omega arith));
+            limit-most = a .limit-most;
+            before = a .before;
+            widest-is = wide-more ∙ ap widest (sym part);
+            fair = subst (λ (z : Layout). Fair z) (sym (s .best-is)) (best-fair kind limit g0 cs k);
+            rest-width = omega (arith, a .later .width-is k (omega (arith, long)), no-wider (getD (layouts kind limit g0 cs) (suc k) unmet) none none (layouts-fair kind limit g0 cs (suc k)));
+          },
+          rows-more ∙ ap tall (sym part),
+          omega arith,
+          omega (arith, a .room),
+        )
+
+        pub scan-more : (r : Best)
+            → layoutIn r ≡ choice (candidate kind limit g0 (componentsIn (take (k + 1) hs) (take (k + 1) ws) (take (k + 1) gs)) (record { width = getD widths k 0; height = getD heights k 0; end = 0 }) (length (take (k + 1) hs))) (layoutIn best)
+            → Scanned kind limit g0 (componentsIn hs ws gs) r (rows + x) wider (k + 1)
+        scan-more r e =
+            let lk : k < length cs = omega (arith, long) in
+            let rest : Layout = record { width = getD widths k 0; height = getD heights k 0; end = 0 } in
+            let n : length (take (k + 1) hs) ≡ suc k = length-take-le (k + 1) hs (omega arith) ∙ add-one k in
+            rw (add-one k) (record {
+              within = omega (arith, long);
+              best-is =
+                  e
+                  ∙ rw (part, n, s .best-is, same-rest kind limit g0 (take (suc k) cs) rest (getD (layouts kind limit g0 cs) (suc k) unmet) (suc k) (a .later .width-is k lk) (a .later .height-is k lk))
+                  (sym (best-more kind limit g0 cs k));
+              tall-is = rows-more;
+              low = omega arith;
+              widest-is = wide-more;
+            })

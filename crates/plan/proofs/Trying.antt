@@ -1,0 +1,109 @@
+-- One group, tried as the first: each way in which trying it ends.
+use Prim.Native.Nat.{ℕ, suc, _+_, _*_, _-_, _≤_, _<_, min, max}
+use mathlib.Core.Path.{_≡_, refl, sym, _∙_}
+use mathlib.Core.Logic.{_⊎_, inl, inr}
+use mathlib.Core.List.{List, []}
+use native.Mathlib.Omega.{arith}
+use lib.ListN.{length, getD, take}
+use lib.Seq.{take-all}
+use Rattle.terms.specs.declared.Component.{Component}
+use Rattle.terms.specs.declared.Kind.{Kind}
+use Rattle.terms.specs.declared.Kind.the-variants.{Apart, Nested}
+use Rattle.terms.specs.Component.{componentIn, componentsIn}
+use Rattle.group.specs.Rows.{tall}
+use Rattle.group.specs.Group.{none, gapAfter, widest, flatHeight, leastWidth, leastHeight}
+use Rattle.group.proofs.Chains.{order}
+use Rattle.group_height.specs.Heights.{WidthAsks, Narrow}
+use Rattle.layout.specs.Layout.{Layout, candidate, choice}
+use Rattle.layout.specs.Plan.{StackLists}
+use Rattle.plan.specs.declared.Best.{Best}
+use Rattle.plan.specs.Asks.{layoutIn, GroupAsks}
+use Rattle.plan.proofs.Columns.{components-length, component-at, gap-last, widest-most}
+use Rattle.layout.proofs.Scan.{candidate-is}
+use Rattle.layout.proofs.Widths.{apart-met, apart-unmet}
+use Rattle.layout.proofs.Prune.{choice-unmet, group-unmet, skip-rest, skip-widest, skip-both}
+
+pub widest-4000 : (kind : Kind) (hs ws gs : List ℕ) → StackLists kind hs ws gs → widest (componentsIn hs ws gs) ≤ 4000
+widest-4000 kind hs ws gs s =
+    widest-most (componentsIn hs ws gs) (componentIn [] [] [] 0) 4000
+    (λ i h. rw (component-at hs ws gs i (omega (arith, components-length hs ws gs))) (s .slim i))
+
+pub gap-end : (hs ws gs : List ℕ) → 0 < length hs → gapAfter (componentsIn hs ws gs) ≡ getD gs (length hs - 1) 0
+gap-end hs ws gs h =
+    let n : length (componentsIn hs ws gs) ≡ length hs = components-length hs ws gs in
+    let e : take (suc (length hs - 1)) (componentsIn hs ws gs) ≡ componentsIn hs ws gs = take-all (suc (length hs - 1)) (componentsIn hs ws gs) (omega arith) in
+    rw e at (gap-last (componentsIn hs ws gs) (length hs - 1) (componentIn [] [] [] 0) (omega arith))
+    ∙ rw (component-at hs ws gs (length hs - 1) (omega arith))
+
+module _ {kind : Kind} {limit g0 wide : ℕ} {hs ws gs : List ℕ} {best rest : Best} (a : GroupAsks kind limit g0 wide hs ws gs best rest) where
+  pub wide-4000 : wide ≤ 4000
+  wide-4000 = omega (arith, a .widest-is, widest-4000 kind hs ws gs (a .lists))
+
+  pub rest-none : none ≤ rest .width → layoutIn best ≡ choice (candidate kind limit g0 (componentsIn hs ws gs) (layoutIn rest) (length hs)) (layoutIn best)
+  rest-none h = sym (skip-rest kind limit g0 (componentsIn hs ws gs) (layoutIn rest) (length hs) (layoutIn best) (a .fair) h)
+
+flat-is : (g0 : ℕ) (cs : List Component) (cap : ℕ) → leastHeight Apart g0 cs cap ≡ flatHeight g0 cs
+unfolding leastHeight
+flat-is g0 cs cap = refl
+
+-- Without a fold.
+module _ {limit g0 wide : ℕ} {hs ws gs : List ℕ} {best rest : Best} (a : GroupAsks Apart limit g0 wide hs ws gs best rest) (rows last : ℕ)
+    (t : rows ≡ tall (componentsIn hs ws gs)) (l : last ≡ getD gs (length hs - 1) 0) where
+  flat : flatHeight g0 (componentsIn hs ws gs) ≡ rows + g0 + last
+  flat = omega (arith, gap-end hs ws gs (a .some))
+
+  pub flat-high : limit < rows + g0 + last → layoutIn best ≡ choice (candidate Apart limit g0 (componentsIn hs ws gs) (layoutIn rest) (length hs)) (layoutIn best)
+  flat-high h =
+      sym (rw (group-unmet Apart limit g0 (componentsIn hs ws gs) (layoutIn rest) (length hs) (omega (arith, apart-unmet g0 (componentsIn hs ws gs) limit (omega (arith, flat)))))
+      (choice-unmet (layoutIn best) (a .fair)))
+
+  pub flat-tried : (r : Layout) (height end : ℕ) → rows + g0 + last ≤ limit → rest .width < none → height ≡ max (rows + g0 + last) (rest .height) → end ≡ length hs
+      → r ≡ choice (record { width = wide + rest .width; height = height; end = end }) (layoutIn best)
+      → r ≡ choice (candidate Apart limit g0 (componentsIn hs ws gs) (layoutIn rest) (length hs)) (layoutIn best)
+  flat-tried r height end h o eh ee er =
+      let w : leastWidth Apart g0 (componentsIn hs ws gs) limit ≡ widest (componentsIn hs ws gs) = apart-met g0 (componentsIn hs ws gs) limit (omega (arith, flat)) in
+      rw (candidate-is Apart limit g0 (componentsIn hs ws gs) (layoutIn rest) (length hs) (omega (arith, w, widest-4000 Apart hs ws gs (a .lists))) o, w, flat-is g0 (componentsIn hs ws gs) (widest (componentsIn hs ws gs)), flat, ← a .widest-is, ← eh, ← ee) er
+
+-- With the fold that makes it narrowest.
+module _ {limit g0 wide : ℕ} {hs ws gs : List ℕ} {best rest : Best} (a : GroupAsks Nested limit g0 wide hs ws gs best rest) where
+  abbrev w : ℕ
+  w = leastWidth Nested g0 (componentsIn hs ws gs) limit
+
+  pub narrow-asks : (es : List ℕ) (cap : ℕ) → 8192 ≤ length es → wide ≤ cap → cap ≤ 2 * wide → WidthAsks g0 hs ws gs es limit wide cap
+  narrow-asks es cap room c d = record {
+    asks = record {
+      table = record { columns = record { same = a .lists .same-widths; low = a .lists .low; slim = a .lists .slim }; few = a .lists .few; room = omega arith };
+      some = a .some;
+      gaps-long = a .lists .same-gaps;
+      gaps-low = a .lists .near;
+      first-low = a .before;
+    };
+    is-widest = a .widest-is;
+    from = c;
+    to = d;
+    limit-low = a .limit-most;
+  }
+
+  pub folds-wide : best .width < rest .width + wide → layoutIn best ≡ choice (candidate Nested limit g0 (componentsIn hs ws gs) (layoutIn rest) (length hs)) (layoutIn best)
+  folds-wide h =
+      sym (skip-widest Nested limit g0 (componentsIn hs ws gs) (layoutIn rest) (length hs) (layoutIn best) (a .fair) (omega (arith, a .widest-is)))
+
+  module _ (cap nw nh : ℕ) (o : rest .width < none) (q : rest .width + wide ≤ best .width) (e : cap ≡ min (2 * wide) (best .width - rest .width)) (n : Narrow g0 hs ws gs limit cap nw nh) where
+    pub folds-none : none ≤ nw → layoutIn best ≡ choice (candidate Nested limit g0 (componentsIn hs ws gs) (layoutIn rest) (length hs)) (layoutIn best)
+    folds-none h = sym (go (order w cap))
+      where
+        go : (w ≤ cap) ⊎ (cap < w) → choice (candidate Nested limit g0 (componentsIn hs ws gs) (layoutIn rest) (length hs)) (layoutIn best) ≡ layoutIn best
+        go (inl p) = absurd (omega (arith, n .within p .0, wide-4000 a))
+        go (inr p) =
+            skip-both Nested limit g0 (componentsIn hs ws gs) (layoutIn rest) (length hs) (layoutIn best) (a .fair) cap (omega (arith, a .widest-is)) (omega arith) p
+
+    pub folds-tried : (r : Layout) (height end : ℕ) → nw < none → height ≡ max nh (rest .height) → end ≡ length hs
+        → r ≡ choice (record { width = nw + rest .width; height = height; end = end }) (layoutIn best)
+        → r ≡ choice (candidate Nested limit g0 (componentsIn hs ws gs) (layoutIn rest) (length hs)) (layoutIn best)
+    folds-tried r height end h eh ee er = go (order w cap)
+      where
+        go : (w ≤ cap) ⊎ (cap < w) → r ≡ choice (candidate Nested limit g0 (componentsIn hs ws gs) (layoutIn rest) (length hs)) (layoutIn best)
+        go (inr p) = absurd (omega (arith, n .over p))
+        go (inl p) =
+            let f = n .within p in
+            rw (candidate-is Nested limit g0 (componentsIn hs ws gs) (layoutIn rest) (length hs) (omega (arith, f .0)) o, ← f .0, ← f .1, ← eh, ← ee) er

@@ -1,0 +1,80 @@
+-- What the functions of this crate ask and promise each other. Only `PlanAsks` belongs to a public call.
+use Prim.Native.Nat.{ℕ, zero, suc, _*_, _≤_, _<_}
+use mathlib.Core.Path.{_≡_}
+use mathlib.Core.Logic.{_⊎_}
+use mathlib.Core.List.{List}
+use lib.ListN.{length, getD, drop}
+use Rattle.terms.specs.declared.Component.{Component}
+use Rattle.terms.specs.declared.Kind.{Kind}
+use Rattle.terms.specs.declared.Kind.the-variants.{Apart, Nested}
+use Rattle.terms.specs.Component.{componentsIn}
+use Rattle.group.specs.Group.{none, widest}
+use Rattle.layout.specs.Layout.{Layout, unmet, scan, layouts}
+use Rattle.layout.specs.Plan.{StackLists, PlannedAt}
+use Rattle.plan.specs.declared.Best.{Best}
+
+abbrev pub layoutIn : Best → Layout
+layoutIn b = record { width = b .width; height = b .height; end = b .end }
+
+-- One group, and the best layout so far, which the group may improve.
+pub record GroupAsks (kind : Kind) (limit g0 wide : ℕ) (hs ws gs : List ℕ) (best rest : Best) : Type 0 where
+  pub lists : StackLists kind hs ws gs
+  pub some : 0 < length hs
+  pub limit-most : limit ≤ 2000000
+  pub before : g0 ≤ 4000
+  pub widest-is : wide ≡ widest (componentsIn hs ws gs)
+  pub fair : (best .width < none) ⊎ ((best .width ≡ none) × (best .height ≤ none))
+  pub rest-width : rest .width ≤ none
+
+-- No group with more rows than this in its components keeps the limit.
+abbrev pub mostRows : Kind → ℕ → ℕ
+mostRows Apart limit = limit
+mostRows Nested limit = 2 * limit
+
+-- Two lists hold the best layouts behind 1, 2, 3 and so on components.
+pub record Later (kind : Kind) (limit g0 : ℕ) (cs : List Component) (widths heights : List ℕ) : Type 0 where
+  pub width-is : (k : ℕ) → k < length cs → getD widths k 0 ≡ getD (layouts kind limit g0 cs) (suc k) unmet .width
+  pub height-is : (k : ℕ) → k < length cs → getD heights k 0 ≡ getD (layouts kind limit g0 cs) (suc k) unmet .height
+
+pub record FirstAsks (kind : Kind) (limit g0 : ℕ) (hs ws gs widths heights es : List ℕ) : Type 0 where
+  pub lists : StackLists kind hs ws gs
+  pub some : 0 < length hs
+  pub limit-most : limit ≤ 2000000
+  pub before : g0 ≤ 4000
+  pub widths-long : length hs ≤ length widths
+  pub heights-long : length hs ≤ length heights
+  pub room : 8192 ≤ length es
+  pub later : Later kind limit g0 (componentsIn hs ws gs) widths heights
+
+-- The best layout with at most k components in the first group.
+abbrev pub bestTo : Kind → ℕ → ℕ → List Component → ℕ → Layout
+bestTo kind limit g0 cs k = scan kind limit g0 cs (drop 1 (layouts kind limit g0 cs)) k
+
+-- The lists hold the best layouts behind more than i components.
+pub record FromAsks (kind : Kind) (limit i : ℕ) (hs ws gs widths heights es : List ℕ) : Type 0 where
+  pub lists : StackLists kind hs ws gs
+  pub within : i < length hs
+  pub limit-most : limit ≤ 2000000
+  pub widths-long : length hs < length widths
+  pub heights-long : length hs < length heights
+  pub room : 8192 ≤ length es
+  pub width-is : (j : ℕ) → i < j → j ≤ length hs → getD widths j 0 ≡ getD (layouts kind limit 0 (componentsIn hs ws gs)) j unmet .width
+  pub height-is : (j : ℕ) → i < j → j ≤ length hs → getD heights j 0 ≡ getD (layouts kind limit 0 (componentsIn hs ws gs)) j unmet .height
+
+pub record PlanAsks (kind : Kind) (limit : ℕ) (hs ws gs widths heights ends es : List ℕ) : Type 0 where
+  pub lists : StackLists kind hs ws gs
+  pub some : 0 < length hs
+  pub limit-most : limit ≤ 2000000
+  pub widths-long : length hs < length widths
+  pub heights-long : length hs < length heights
+  pub ends-long : length hs < length ends
+  pub room : 8192 ≤ length es
+
+-- The gap before the component with i others before it.
+abbrev pub gapBefore : List ℕ → ℕ → ℕ
+gapBefore gs zero = 0
+gapBefore gs (suc i) = getD gs i 0
+
+-- The three lists are right from i on.
+pub record PlannedFrom (kind : Kind) (limit : ℕ) (cs : List Component) (widths heights ends : List ℕ) (i : ℕ) : Type 0 where
+  pub at : (j : ℕ) → i ≤ j → j ≤ length cs → PlannedAt (getD (layouts kind limit 0 cs) j unmet) (getD widths j 0) (getD heights j 0) (getD ends j 0)
