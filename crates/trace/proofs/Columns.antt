@@ -1,0 +1,116 @@
+-- The columns of a stack, and those of its first components and of the rest.
+use Prim.Native.Nat.{ℕ, zero, suc, _+_, _-_, _≤_, _<_}
+use mathlib.Core.Path.{_≡_, refl, sym, ap, _∙_}
+use mathlib.Core.List.{List, [], _∷_, _++_}
+use native.Mathlib.Omega.{arith}
+use lib.ListN.{length, getD, take, drop, length-drop}
+use lib.Seq.{length-take-le, getD-take, getD-drop, ext-getD}
+use Rattle.terms.specs.declared.Component.{Component}
+use Rattle.terms.specs.declared.Kind.{Kind}
+use Rattle.terms.specs.Component.{tabulate, componentIn, componentsIn}
+use Rattle.terms.proofs.Tabulate.{tabulate-length, tabulate-at, tabulate-same}
+use Rattle.terms.proofs.Lists.{Sized, AllSized}
+use Rattle.group.specs.Rows.{gap}
+use Rattle.group.specs.Group.{gapAfter}
+use Rattle.group.specs.Table.{Columns}
+use Rattle.layout.specs.Plan.{StackLists}
+
+pub columns-of : {kind : Kind} {hs ws gs : List ℕ} → StackLists kind hs ws gs → Columns hs ws
+columns-of s = record { same = s .same-widths; low = s .low; slim = s .slim }
+
+pub components-length : (hs ws gs : List ℕ) → length (componentsIn hs ws gs) ≡ length hs
+components-length hs ws gs = tabulate-length (componentIn hs ws gs) (length hs)
+
+-- An entry of a part is one of the list, or there is none.
+take-least : (k : ℕ) (l : List ℕ) (i most : ℕ) → getD l i 0 ≤ most → getD (take k l) i 0 ≤ most
+take-least zero l i most h = omega arith
+take-least (suc k) [] i most h = omega arith
+take-least (suc k) (x ∷ l) zero most h = h
+take-least (suc k) (x ∷ l) (suc i) most h = take-least k l i most h
+
+module _ {kind : Kind} {hs ws gs : List ℕ} (s : StackLists kind hs ws gs) (k : ℕ) (h : k ≤ length hs) where
+  pub lists-take : StackLists kind (take k hs) (take k ws) (take k gs)
+  lists-take =
+      let a = length-take-le k hs h in
+      let b = length-take-le k ws (omega (arith, s .same-widths)) in
+      let d = length-take-le k gs (omega (arith, s .same-gaps)) in
+      record {
+        same-widths = omega arith;
+        same-gaps = omega arith;
+        few = omega (arith, s .few);
+        tall = λ i l. rw (getD-take k hs i 0 (omega arith)) (s .tall i (omega arith));
+        low = λ i. take-least k hs i 4000 (s .low i);
+        wide = λ i l. rw (getD-take k ws i 0 (omega arith)) (s .wide i (omega arith));
+        slim = λ i. take-least k ws i 4000 (s .slim i);
+        near = λ i. take-least k gs i 4000 (s .near i);
+      }
+
+  pub lists-drop : StackLists kind (drop k hs) (drop k ws) (drop k gs)
+  lists-drop =
+      let a = length-drop k hs in
+      let b = length-drop k ws in
+      let d = length-drop k gs in
+      record {
+        same-widths = omega (arith, s .same-widths);
+        same-gaps = omega (arith, s .same-gaps);
+        few = omega (arith, s .few);
+        tall = λ i l. rw (getD-drop k hs i 0) (s .tall (k + i) (omega arith));
+        low = λ i. rw (getD-drop k hs i 0) (s .low (k + i));
+        wide = λ i l. rw (getD-drop k ws i 0) (s .wide (k + i) (omega arith));
+        slim = λ i. rw (getD-drop k ws i 0) (s .slim (k + i));
+        near = λ i. rw (getD-drop k gs i 0) (s .near (k + i));
+      }
+
+module _ {A : Type 0} (g : ℕ → A) (n k : ℕ) (h : k ≤ n) where
+  pub tabulate-take : take k (tabulate g n) ≡ tabulate g k
+  tabulate-take =
+      let a = length-take-le k (tabulate g n) (omega (arith, tabulate-length g n)) in
+      ext-getD (g 0) (take k (tabulate g n)) (tabulate g k) (a ∙ sym (tabulate-length g k))
+      (λ i l. getD-take k (tabulate g n) i (g 0) (omega arith) ∙ tabulate-at g n i (g 0) (omega arith) ∙ sym (tabulate-at g k i (g 0) (omega arith)))
+
+  pub tabulate-rest : drop k (tabulate g n) ≡ tabulate (λ i. g (k + i)) (n - k)
+  tabulate-rest =
+      let a = length-drop k (tabulate g n) in
+      let b = tabulate-length g n in
+      ext-getD (g 0) (drop k (tabulate g n)) (tabulate (λ i. g (k + i)) (n - k)) (omega (arith, tabulate-length (λ i. g (k + i)) (n - k)))
+      (λ i l. getD-drop k (tabulate g n) i (g 0) ∙ tabulate-at g n (k + i) (g 0) (omega arith) ∙ sym (tabulate-at (λ i. g (k + i)) (n - k) i (g 0) (omega arith)))
+
+module _ (hs ws gs : List ℕ) (k : ℕ) (h : k ≤ length hs) where
+  pub components-take : componentsIn (take k hs) (take k ws) (take k gs) ≡ take k (componentsIn hs ws gs)
+  components-take =
+      rw (length-take-le k hs h, tabulate-take (componentIn hs ws gs) (length hs) k h)
+      (tabulate-same (componentIn (take k hs) (take k ws) (take k gs)) (componentIn hs ws gs) k (λ i l. rw (getD-take k hs i 0 l, getD-take k ws i 0 l, getD-take k gs i 0 l)))
+
+  pub components-drop : componentsIn (drop k hs) (drop k ws) (drop k gs) ≡ drop k (componentsIn hs ws gs)
+  components-drop =
+      rw (length-drop k hs, tabulate-rest (componentIn hs ws gs) (length hs) k h)
+      (tabulate-same (componentIn (drop k hs) (drop k ws) (drop k gs)) (λ i. componentIn hs ws gs (k + i)) (length hs - k) (λ i l. rw (getD-drop k hs i 0, getD-drop k ws i 0, getD-drop k gs i 0)))
+
+sized-last : (cs : List Component) (c : Component) → AllSized cs → Sized c → AllSized (cs ++ (c ∷ []))
+sized-last [] c s t = (t, tt)
+sized-last (d ∷ cs) c s t = (s .0, sized-last cs c (s .1) t)
+
+sized-tabulate : (g : ℕ → Component) (n : ℕ) → ((i : ℕ) → i < n → Sized (g i)) → AllSized (tabulate g n)
+unfolding tabulate
+sized-tabulate g zero s = tt
+sized-tabulate g (suc n) s = sized-last (tabulate g n) (g n) (sized-tabulate g n (λ i l. s i (omega arith))) (s n (omega arith))
+
+pub sized-lists : {kind : Kind} {hs ws gs : List ℕ} → StackLists kind hs ws gs → AllSized (componentsIn hs ws gs)
+sized-lists {hs = hs} {ws = ws} {gs = gs} s =
+    sized-tabulate (componentIn hs ws gs) (length hs)
+    (λ i l. record { height-some = s .tall i l; height-most = s .low i; width-some = s .wide i l; width-most = s .slim i })
+
+gap-last : (cs : List Component) (c : Component) → gapAfter (cs ++ (c ∷ [])) ≡ gap c
+unfolding gapAfter
+gap-last [] c = refl
+gap-last (d ∷ []) c = refl
+gap-last (d ∷ e ∷ cs) c = gap-last (e ∷ cs) c
+
+gap-tabulate : (g : ℕ → Component) (k : ℕ) → gapAfter (tabulate g (suc k)) ≡ gap (g k)
+unfolding tabulate
+gap-tabulate g k = gap-last (tabulate g k) (g k)
+
+pub gap-first : (hs ws gs : List ℕ) (k : ℕ) → 0 < k → k ≤ length hs → gapAfter (take k (componentsIn hs ws gs)) ≡ getD gs (k - 1) 0
+gap-first hs ws gs k p h =
+    let e : suc (k - 1) ≡ k = omega arith in
+    rw (tabulate-take (componentIn hs ws gs) (length hs) k h) (ap (λ (n : ℕ). gapAfter (tabulate (componentIn hs ws gs) n)) (sym e) ∙ gap-tabulate (componentIn hs ws gs) (k - 1))

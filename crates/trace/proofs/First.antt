@@ -1,0 +1,120 @@
+-- The first group of a layout that three lists hold, and the rest.
+use Prim.Native.Nat.{ℕ, zero, suc, _+_, _-_, _*_, _≤_, _<_}
+use mathlib.Core.Path.{_≡_, refl, sym, ap, _∙_}
+use mathlib.Core.List.{List, [], _∷_, _++_}
+use native.Mathlib.Omega.{arith}
+use lib.ListN.{length, getD, take, drop, length-drop, take-append-drop}
+use lib.Seq.{length-take-le, getD-drop, getD-append-add}
+use Rattle.terms.specs.declared.Component.{Component}
+use Rattle.terms.specs.declared.Kind.{Kind}
+use Rattle.terms.proofs.Tabulate.{tabulate-same}
+use Rattle.terms.proofs.Lists.{AllSized}
+use Rattle.folding.specs.declared.Placement.{Placement}
+use Rattle.folding.specs.Placement.{placementAt, placementsOf}
+use Rattle.group.specs.Rows.{gap}
+use Rattle.group.specs.Group.{none, gapAfter, leastHeight, leastWidth, FoldPoint, nowhere, behind, groupPlaces}
+use Rattle.group.specs.Table.{flatOf}
+use Rattle.group_trace.proofs.Flat.{flat-length, placements-flat}
+use Rattle.layout.specs.Layout.{Layout, unmet, layouts, layoutOf}
+use Rattle.layout.specs.Plan.{PlannedAt, Planned}
+use Rattle.layout.proofs.Scan.{layouts-at}
+use Rattle.group.proofs.Exact.{least-reached}
+use Rattle.layout.proofs.Folds.{Folds, folds-join}
+use Rattle.layout.proofs.Reach.{sized-take, restOf, Chosen, chosen}
+use Rattle.trace.specs.Trace.{Met}
+use Rattle.trace.proofs.Columns.{tabulate-take, tabulate-rest}
+
+-- A group's fold is behind at least one and at most all of its components.
+pub point-within : (kind : Kind) (g0 : ℕ) (cs : List Component) (cap p : ℕ) → 0 < length cs → FoldPoint kind g0 cs cap p → (0 < p) × (p ≤ length cs)
+point-within kind g0 cs cap p s (nowhere e f) = (omega arith, omega arith)
+point-within kind g0 cs cap p s (behind e a b f) = (a, omega arith)
+
+-- The best layouts behind k components are those of the rest.
+layouts-drop : (kind : Kind) (limit g0 : ℕ) (cs : List Component) (k : ℕ) → 0 < k → k ≤ length cs
+    → drop k (layouts kind limit g0 cs) ≡ layouts kind limit (gapAfter (take k cs)) (drop k cs)
+unfolding layouts gapAfter
+layouts-drop kind limit g0 cs zero p h = absurd (omega arith)
+layouts-drop kind limit g0 [] (suc k) p h = absurd (omega arith)
+layouts-drop kind limit g0 (x ∷ cs) (suc zero) p h = refl
+layouts-drop kind limit g0 (x ∷ []) (suc (suc k)) p h = absurd (omega arith)
+layouts-drop kind limit g0 (x ∷ y ∷ cs) (suc (suc k)) p h = layouts-drop kind limit (gap x) (y ∷ cs) (suc k) (omega arith) (omega arith)
+
+planned-drop : (kind : Kind) (limit g0 : ℕ) (cs : List Component) (widths heights ends : List ℕ) (k : ℕ) → 0 < k → k ≤ length cs → Planned kind limit g0 cs widths heights ends
+    → Planned kind limit (gapAfter (take k cs)) (drop k cs) (drop k widths) (drop k heights) (drop k ends)
+planned-drop kind limit g0 cs widths heights ends k p h s = record {
+  at = λ j l.
+    let q : PlannedAt (getD (layouts kind limit g0 cs) (k + j) unmet) (getD widths (k + j) 0) (getD heights (k + j) 0) (getD ends (k + j) 0) = s .at (k + j) (omega (arith, length-drop k cs)) in
+    rw (← layouts-drop kind limit g0 cs k p h, getD-drop k (layouts kind limit g0 cs) j unmet, getD-drop k widths j 0, getD-drop k heights j 0, getD-drop k ends j 0) q;
+}
+
+-- The first group of a layout that the lists hold.
+module _ (kind : Kind) (limit g0 : ℕ) (cs : List Component) (widths heights ends : List ℕ) (some : 0 < length cs) (few : length cs ≤ 256) (s : AllSized cs)
+  (m : Met kind limit g0 cs widths heights ends) where
+  is-chosen : Chosen kind limit g0 cs (layoutOf kind limit g0 cs)
+  is-chosen = chosen kind limit g0 cs some (m .met)
+
+  end-is : getD ends 0 0 ≡ layoutOf kind limit g0 cs .end
+  end-is = m .planned .at 0 (omega arith) .end-is
+
+  width-is : getD widths 0 0 ≡ layoutOf kind limit g0 cs .width
+  width-is = m .planned .at 0 (omega arith) .width-is
+
+  pub end-bounds : (0 < getD ends 0 0) × (getD ends 0 0 ≤ length cs)
+  end-bounds = (omega (arith, end-is, is-chosen .some), omega (arith, end-is, is-chosen .within))
+
+  module _ (k : ℕ) (e : k ≡ getD ends 0 0) where
+    k-is : layoutOf kind limit g0 cs .end ≡ k
+    k-is = sym (e ∙ end-is)
+
+    k-some : 0 < k
+    k-some = omega (arith, end-bounds .0)
+
+    k-within : k ≤ length cs
+    k-within = omega (arith, end-bounds .1)
+
+    group-long : length (take k cs) ≡ k
+    group-long = length-take-le k cs k-within
+
+    group-met : leastWidth kind g0 (take k cs) limit < none
+    group-met = rw k-is at (is-chosen .group-met)
+
+    rest-width : getD widths k 0 ≡ restOf kind limit cs k .width
+    rest-width = m .planned .at k k-within .width-is ∙ ap (λ (l : Layout). l .width) (layouts-at kind limit g0 cs k k-some k-within)
+
+    whole-width : getD widths 0 0 ≡ leastWidth kind g0 (take k cs) limit + getD widths k 0
+    whole-width = width-is ∙ rw k-is at (is-chosen .width) ∙ rw rest-width
+
+    pub no-wider : getD widths k 0 ≤ getD widths 0 0
+    no-wider = omega (arith, whole-width)
+
+    cap-is : getD widths 0 0 - getD widths k 0 ≡ leastWidth kind g0 (take k cs) limit
+    cap-is = omega (arith, whole-width)
+
+    pub rest-met : Met kind limit (gapAfter (take k cs)) (drop k cs) (drop k widths) (drop k heights) (drop k ends)
+    rest-met = record { planned = planned-drop kind limit g0 cs widths heights ends k k-some k-within (m .planned); met = rw k-is at (is-chosen .rest-met) }
+
+    pub joined : (group p : ℕ) (qs : List Placement) → FoldPoint kind g0 (take k cs) (getD widths 0 0 - getD widths k 0) p
+        → Folds kind (group + 1) (gapAfter (take k cs)) (drop k cs) qs (restOf kind limit cs k .width) (restOf kind limit cs k .height)
+        → Folds kind group g0 cs (groupPlaces (getD widths 0 0 - getD widths k 0) (take k cs) group p ++ qs) (layoutOf kind limit g0 cs .width) (layoutOf kind limit g0 cs .height)
+    joined group p qs f r =
+        let w = leastWidth kind g0 (take k cs) limit in
+        let g = least-reached kind g0 (take k cs) limit (omega (arith, group-long, k-some)) (omega (arith, group-long, k-within)) (sized-take k cs s) group-met group p (rw cap-is at f) in
+        let j = folds-join kind group g0 (take k cs) (groupPlaces w (take k cs) group p) w (leastHeight kind g0 (take k cs) w) (drop k cs) qs _ _ g r in
+        rw (cap-is, rw k-is at (is-chosen .width), rw k-is at (is-chosen .height)) (rw (take-append-drop k cs) at j)
+
+-- Placements behind those of a group.
+placement-behind : (a b : List ℕ) (k i : ℕ) → length a ≡ 3 * k → placementAt (a ++ b) (k + i) ≡ placementAt b i
+placement-behind a b k i e =
+    let x : 3 * (k + i) ≡ length a + 3 * i = omega arith in
+    let y : 3 * (k + i) + 1 ≡ length a + (3 * i + 1) = omega arith in
+    let z : 3 * (k + i) + 2 ≡ length a + (3 * i + 2) = omega arith in
+    rw (y, z, x, getD-append-add a b (3 * i) 0, getD-append-add a b (3 * i + 1) 0, getD-append-add a b (3 * i + 2) 0) refl
+
+pub placements-behind : (ps : List Placement) (b : List ℕ) (n : ℕ) → length ps ≤ n → placementsOf (flatOf ps ++ b) n ≡ ps ++ placementsOf b (n - length ps)
+placements-behind ps b n h =
+    let k = length ps in
+    let l : List Placement = placementsOf (flatOf ps ++ b) n in
+    let t : take k l ≡ ps = tabulate-take (placementAt (flatOf ps ++ b)) n k h ∙ placements-flat ps b in
+    let d : drop k l ≡ placementsOf b (n - k) = tabulate-rest (placementAt (flatOf ps ++ b)) n k h ∙ tabulate-same _ _ (n - k) (λ i q. placement-behind (flatOf ps) b k i (flat-length ps)) in
+    sym (take-append-drop k l) ∙ rw (t, d) refl
+

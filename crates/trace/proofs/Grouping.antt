@@ -1,0 +1,69 @@
+-- One group: where its fold is, for both kinds, and what writing it asks.
+use Prim.Native.Nat.{ℕ, _*_, _≤_}
+use mathlib.Core.Path.{_≡_, refl, sym}
+use mathlib.Core.List.{List}
+use native.Mathlib.Omega.{arith}
+use lib.ListN.{length, take}
+use lib.Seq.{length-take-le}
+use Rattle.terms.specs.declared.Kind.{Kind}
+use Rattle.terms.specs.declared.Kind.the-variants.{Apart, Nested}
+use Rattle.terms.specs.Component.{componentsIn}
+use Rattle.terms.proofs.Answers.{most-256}
+use Rattle.group.specs.Group.{flatHeight, leastHeight, FoldPoint, nowhere}
+use Rattle.group.specs.Table.{Filled}
+use Rattle.group_table.specs.Table.{Asks}
+use Rattle.group_height.specs.Heights.{HeightAsks}
+use Rattle.group_trace.specs.Trace.{WriteAsks}
+use Rattle.trace.specs.Trace.{GroupAsks, FoldFound, FirstAsks}
+use Rattle.trace.proofs.Columns.{columns-of, components-length, lists-take}
+use Rattle.trace.proofs.First.{point-within}
+
+least-apart : (kind : Kind) (g0 cap : ℕ) (hs ws gs : List ℕ) → kind ≡ Apart → leastHeight kind g0 (componentsIn hs ws gs) cap ≡ flatHeight g0 (componentsIn hs ws gs)
+unfolding leastHeight
+least-apart kind g0 cap hs ws gs e = rw e refl
+
+module _ (kind : Kind) (g0 cap : ℕ) (hs ws gs work : List ℕ) (a : GroupAsks kind g0 hs ws gs work) where
+  pub apart-found : kind ≡ Apart → FoldFound kind g0 cap hs ws gs work (length hs)
+  apart-found e = record { point = nowhere (sym (components-length hs ws gs)) (least-apart kind g0 cap hs ws gs e); table = λ h. absurd (omega arith) }
+
+  few-nested : kind ≡ Nested → length hs ≤ 64
+  few-nested e = rw e at (a .lists .few)
+
+  pub fill-asks : kind ≡ Nested → Asks hs ws work
+  fill-asks e = record { columns = columns-of (a .lists); few = few-nested e; room = a .work-room }
+
+  module _ (e : kind ≡ Nested) (filled : List ℕ) (f : Filled hs ws filled cap) where
+    pub point-asks : length filled ≡ length work → HeightAsks g0 hs ws gs filled × Filled hs ws filled cap
+    point-asks n =
+        (record {
+          table = record { columns = columns-of (a .lists); few = few-nested e; room = omega (arith, a .work-room) };
+          some = a .some;
+          gaps-long = a .lists .same-gaps;
+          gaps-low = a .lists .near;
+          first-low = a .before;
+        },
+        f)
+
+    pub nested-found : (p : ℕ) → FoldPoint Nested g0 (componentsIn hs ws gs) cap p → FoldFound kind g0 cap hs ws gs filled p
+    nested-found p q = record { point = rw e q; table = λ h. (few-nested e, f) }
+
+  module _ (out filled : List ℕ) (room : 3 * length hs ≤ length out) (p : ℕ) (f : FoldFound kind g0 cap hs ws gs filled p) where
+    pub write-asks : WriteAsks hs ws filled out p cap
+    write-asks =
+        let n = components-length hs ws gs in
+        let q = point-within kind g0 (componentsIn hs ws gs) cap p (omega (arith, n, a .some)) (f .point) in
+        record {
+          columns = columns-of (a .lists);
+          few = omega (arith, a .lists .few, most-256 kind);
+          some = q .0;
+          within = omega (arith, n, q .1);
+          table = f .table;
+          room = room;
+        }
+
+pub first-group : (kind : Kind) (g0 k : ℕ) (hs ws gs out work : List ℕ) → FirstAsks kind g0 k hs ws gs out work
+    → GroupAsks kind g0 (take k hs) (take k ws) (take k gs) work × (3 * length (take k hs) ≤ length out)
+first-group kind g0 k hs ws gs out work a =
+    let n = length-take-le k hs (a .within) in
+    (record { lists = lists-take (a .lists) k (a .within); some = omega (arith, n, a .some); before = a .before; work-room = a .work-room },
+     omega (arith, n, a .within, a .room))

@@ -1,0 +1,4 @@
+pub mod Columns
+pub mod First
+pub mod Grouping
+pub mod Tracing
