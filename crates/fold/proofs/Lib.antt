@@ -1,0 +1,5 @@
+pub mod Checks
+pub mod Held
+pub mod Planning
+pub mod Limits
+pub mod Answering

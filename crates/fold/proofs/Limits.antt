@@ -1,0 +1,49 @@
+-- The best layouts for a height and for a width, over every legal folding.
+use Prim.Native.Nat.{ℕ, _+_, _-_, _/_, _≤_, _<_}
+use mathlib.Core.Path.{_≡_, refl}
+use mathlib.Core.List.{List}
+use native.Mathlib.Omega.{arith}
+use Rattle.terms.specs.declared.Component.{Component}
+use Rattle.terms.specs.declared.Kind.{Kind}
+use Rattle.terms.specs.Answer.{Answer, refusal, result}
+use Rattle.folding.specs.declared.Outline.{Outline}
+use Rattle.folding.specs.Best.{BestForHeight, BestForWidth, UnmeetableHeight, UnmeetableWidth}
+use Rattle.layout.specs.Layout.{layoutOf}
+use Rattle.layout.proofs.Best.{best-height, unmeetable-height, below-one, below-next, best-width, unmeetable-width}
+use Rattle.fold.specs.Calls.{Searched}
+use Rattle.fold.specs.Inner.{bestAt, Written, LeastFor, Halving}
+use Rattle.fold.proofs.Held.{Stacked}
+
+module _ (kind : Kind) (cs : List Component) (s : Stacked cs) where
+  pub to-height : (limit : ℕ) (out out′ : List ℕ) (answer : Answer Outline) → Written kind cs limit out out′ answer → Searched BestForHeight UnmeetableHeight kind cs limit out out′ answer
+  to-height limit out out′ (refusal k) w = (w .0, unmeetable-height kind cs (s .few) (s .sized) limit (w .1), w .2)
+  to-height limit out out′ (result o) w = (rw (w .0) (best-height kind cs (s .few) (s .sized) limit _ (w .1) (w .2)), w .3, w .4)
+
+  -- For a width.
+  module _ (most : ℕ) (h : most ≤ 2000000) where
+    pub too-wide : (o : Outline) (out : List ℕ) → o ≡ bestAt kind 2000000 cs → most < o .width .0 → Searched BestForWidth UnmeetableWidth kind cs most out out (refusal 9)
+    too-wide o out e l = (refl, unmeetable-width kind cs (s .few) (s .sized) (s .gapped) most (rw e at l), refl)
+
+    pub within-all : (o : Outline) → o ≡ bestAt kind 2000000 cs → o .width .0 ≤ most → layoutOf kind 2000000 0 cs .width ≤ most
+    within-all o e l = rw e at l
+
+    pub to-width : (limit : ℕ) (out out′ : List ℕ) (answer : Answer Outline) → LeastFor kind cs most limit → Written kind cs limit out out′ answer
+        → Searched BestForWidth UnmeetableWidth kind cs most out out′ answer
+    to-width limit out out′ (refusal k) l w = absurd (omega (arith, l .within, w .1))
+    to-width limit out out′ (result o) l w = (rw (w .0) (best-width kind cs (s .few) (s .sized) most limit (l .below) _ (l .within) (w .1) (w .2)), w .3, w .4)
+
+    -- Halving.
+    pub starts : layoutOf kind 2000000 0 cs .width ≤ most → Halving kind cs most 1 2000000
+    starts w = record { order = omega arith; most = omega arith; within = w; below = below-one kind cs (s .few) (s .sized) (s .some) most (omega arith) }
+
+    module _ (lo hi : ℕ) (l : lo < hi) (i : Halving kind cs most lo hi) (o : Outline) (e : o ≡ bestAt kind (lo + (hi - lo) / 2) cs) where
+      pub lower : o .width .0 ≤ most → Halving kind cs most lo (lo + (hi - lo) / 2)
+      lower w = record { order = omega arith; most = omega (arith, i .most); within = rw e at w; below = i .below }
+
+      pub raise : most < o .width .0 → Halving kind cs most (lo + (hi - lo) / 2 + 1) hi
+      raise w = record { order = omega arith; most = i .most; within = i .within; below = below-next kind cs (s .few) (s .sized) most (lo + (hi - lo) / 2) (rw e at w) }
+
+    pub found : (lo hi : ℕ) → hi ≤ lo → Halving kind cs most lo hi → LeastFor kind cs most lo
+    found lo hi d i =
+        let e : hi ≡ lo = omega (arith, i .order) in
+        record { most = omega (arith, i .most); within = rw e at (i .within); below = i .below }

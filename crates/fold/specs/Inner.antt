@@ -1,0 +1,54 @@
+-- What the functions inside this crate promise each other. Nothing here is part of a public promise.
+use Prim.Native.Nat.{ℕ, _+_, _*_, _≤_, _<_}
+use mathlib.Core.Path.{_≡_}
+use mathlib.Core.List.{List}
+use lib.ListN.{length, take, drop}
+use Rattle.terms.specs.declared.Component.{Component}
+use Rattle.terms.specs.declared.Kind.{Kind}
+use Rattle.terms.specs.Answer.{Answer, refusal, result}
+use Rattle.folding.specs.declared.Outline.{Outline}
+use Rattle.folding.specs.Placement.{placementsOf}
+use Rattle.group.specs.Group.{none}
+use Rattle.layout.specs.Layout.{layoutOf}
+use Rattle.layout.specs.Plan.{StackLists}
+use Rattle.layout.specs.Table.{outline}
+use Rattle.layout.proofs.Folds.{Folds}
+
+-- A stack in three lists, with room to plan it.
+pub record Plannable (kind : Kind) (hs ws gs work : List ℕ) : Type 0 where
+  pub lists : StackLists kind hs ws gs
+  pub some : 0 < length hs
+  pub room : 8192 ≤ length work
+
+-- A stack that stands in the first n entries of three lists.
+pub record FirstLists (kind : Kind) (n : ℕ) (hs ws gs : List ℕ) : Type 0 where
+  pub heights-long : n ≤ length hs
+  pub widths-long : n ≤ length ws
+  pub gaps-long : n ≤ length gs
+  pub some : 0 < n
+  pub lists : StackLists kind (take n hs) (take n ws) (take n gs)
+
+-- The outline of the best layout for the limit.
+abbrev pub bestAt : Kind → ℕ → List Component → Outline
+bestAt kind limit cs = outline (layoutOf kind limit 0 cs .width) (layoutOf kind limit 0 cs .height)
+
+-- A folding with that outline is written where there is one.
+abbrev pub Written : Kind → List Component → ℕ → List ℕ → List ℕ → Answer Outline → Type 0
+Written kind cs limit out out′ (refusal k) = (k ≡ 9) × (none ≤ layoutOf kind limit 0 cs .width) × (out′ ≡ out)
+Written kind cs limit out out′ (result o) =
+    (o ≡ bestAt kind limit cs) × (layoutOf kind limit 0 cs .width < none)
+    × Folds kind 0 0 cs (placementsOf out′ (length cs)) (layoutOf kind limit 0 cs .width) (layoutOf kind limit 0 cs .height)
+    × (drop (3 * length cs) out′ ≡ drop (3 * length cs) out) × (length out′ ≡ length out)
+
+-- The least height for which the best layout is at most w wide.
+pub record LeastFor (kind : Kind) (cs : List Component) (w limit : ℕ) : Type 0 where
+  pub most : limit ≤ 2000000
+  pub within : layoutOf kind limit 0 cs .width ≤ w
+  pub below : (k : ℕ) → limit ≡ k + 1 → w < layoutOf kind k 0 cs .width
+
+-- Halving: between lo and hi.
+pub record Halving (kind : Kind) (cs : List Component) (w lo hi : ℕ) : Type 0 where
+  pub order : lo ≤ hi
+  pub most : hi ≤ 2000000
+  pub within : layoutOf kind hi 0 cs .width ≤ w
+  pub below : (k : ℕ) → lo ≡ k + 1 → w < layoutOf kind k 0 cs .width
