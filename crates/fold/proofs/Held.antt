@@ -13,7 +13,7 @@ use Rattle.stack.proofs.Valid.{valid}
 use Rattle.stack.proofs.Reading.{Held}
 use Rattle.layout.specs.Plan.{StackLists}
 use Rattle.layout.proofs.Heights.{AllGaps, all-gaps}
-use Rattle.trace.proofs.Columns.{sized-lists, components-length}
+use Rattle.layout.proofs.Columns.{sized-lists, components-length}
 use Rattle.fold.specs.Inner.{FirstLists}
 
 heights-some : (cs : List Component) → AllSized cs → (i : ℕ) → i < length (heightsOf cs) → 1 ≤ getD (heightsOf cs) i 0

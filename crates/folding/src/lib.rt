@@ -371,7 +371,7 @@ pub fn measure(file: &[u8], kind: Kind, flat: &[u32]) -> Measured
     }
 }
 
-fn second_wins(o: Outline, p: Outline) -> bool
+pub fn second_wins(o: Outline, p: Outline) -> bool
     ensures { λ r. ⌜ r ≡ secondWins o p ⌝ }
 {
     if p.width.0 < o.width.0 {

@@ -7,3 +7,4 @@ pub mod Exact
 pub mod Laws
 pub mod Bare
 pub mod Indices
+pub mod Gaps

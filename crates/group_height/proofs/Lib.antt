@@ -1,3 +1,2 @@
-pub mod Gaps
 pub mod Passing
 pub mod Narrowing

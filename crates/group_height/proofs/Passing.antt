@@ -15,7 +15,7 @@ use Rattle.group_height.specs.Heights.{HeightAsks}
 use Rattle.group_height.specs.Inner.{flatBy, foldBy, PassAsks, Point, Pass}
 use Rattle.group_height.specs.Inner.Point.{flat, fold}
 use Rattle.group.proofs.Bare.{rows-bare}
-use Rattle.group_height.proofs.Gaps.{tall-entry, gap-behind, gap-behind-all}
+use Rattle.group.proofs.Gaps.{tall-entry, gap-behind, gap-behind-all}
 
 lowest-next : (a : ℕ) (f : ℕ → ℕ) (p : ℕ) → 0 < p → lowest a f (p + 1 - 1) ≡ min (lowest a f (p - 1)) (f p)
 unfolding lowest

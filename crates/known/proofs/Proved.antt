@@ -15,6 +15,7 @@ use Rattle.terms.proofs.Answers.{stack-is, most-256, result-same}
 use Rattle.terms.proofs.Lists.{AllSized, all-sized}
 use Rattle.folding.specs.declared.Outline.{Outline}
 use Rattle.folding.specs.declared.Placement.{Placement}
+use Rattle.fold.specs.Calls.{foldChecks}
 use Rattle.folding.specs.Best.{BestForHeight, BestForWidth, Listing}
 use Rattle.group.specs.Rows.{tall, rows}
 use Rattle.group.specs.Group.{none, gapAfter, widest, lowest, leastHeight, firstFrom}
@@ -24,7 +25,7 @@ use Rattle.layout.proofs.Heights.{AllGaps, all-gaps}
 use Rattle.layout.proofs.Reach.{reach}
 use Rattle.layout.proofs.Best.{best-height, unmeetable-height, Below, best-width, unmeetable-width}
 use Rattle.layout.proofs.Table as tables
-use Rattle.known.specs.Known.{Line, to-height, to-width, table, size, Holds, AllHold, units, lines}
+use Rattle.known.specs.Known.{Line, to-height, to-width, table, size, at-limit, Holds, AllHold, units, lines}
 
 -- What the layout of a stack answers for a height.
 abbrev answerOf : Bool → Layout → Answer Outline
@@ -45,6 +46,7 @@ Computed (to-width kind cs limit (result o)) =
     IsStack kind cs × (found kind (o .height .0) cs ≡ result o) × (leb (o .width .0) limit ≡ true) × (ltb limit (layoutOf kind (o .height .0 - 1) 0 cs .width) ≡ true)
 Computed (table kind cs os) = IsStack kind cs × (outlines kind cs 2000000 2000000 ≡ os)
 Computed (size kind cs a) = countOf (stackOf (mostOf kind) cs) ≡ a
+Computed (at-limit x a) = foldChecks x 3 8192 1 1 ≡ a
 
 abbrev AllComputed : List Line → Type 0
 AllComputed [] = Unit {0}
@@ -53,7 +55,7 @@ AllComputed (l ∷ ls) = Computed l × AllComputed ls
 computed : AllComputed lines
 unfolding lines tall rows gapAfter widest lowest leastHeight firstFrom scan layouts outlines stackOf every units
 computed =
-    ((refl, refl), ((refl, refl), ((refl, refl), ((refl, refl), ((refl, refl, refl), ((refl, refl, refl), ((refl, refl), ((refl, refl, refl, refl), ((refl, refl), ((refl, refl), ((refl, refl), ((refl, refl), ((refl, refl), ((refl, refl, refl, refl), ((refl, refl), ((refl, refl), ((refl, refl), (refl, (refl, (refl, (refl, (refl, (refl, tt)))))))))))))))))))))))
+    ((refl, refl), ((refl, refl), ((refl, refl), ((refl, refl), ((refl, refl, refl), ((refl, refl, refl), ((refl, refl), ((refl, refl, refl, refl), ((refl, refl), ((refl, refl), ((refl, refl), ((refl, refl), ((refl, refl), ((refl, refl, refl, refl), ((refl, refl), ((refl, refl), ((refl, refl), (refl, (refl, (refl, (refl, (refl, (refl, (refl, (refl, tt)))))))))))))))))))))))))
 
 -- What a stack's check says.
 module _ (kind : Kind) (cs : List Component) (e : IsStack kind cs) where
@@ -98,6 +100,7 @@ sound (to-width kind cs limit (refusal k)) h = (h .1, unmeetable-width kind cs (
 sound (to-width kind cs limit (result o)) h = width-found kind cs limit o (h .0) (met-is _ (layoutOf kind (o .height .0) 0 cs) o refl (h .1)) (leb-true _ _ (h .2)) (ltb-true _ _ (h .3))
 sound (table kind cs os) h = subst (Listing kind cs) (h .1) (tables.table kind cs (stack-some kind cs (h .0)) (stack-few kind cs (h .0)) (stack-sized kind cs (h .0)) (stack-gaps kind cs (h .0)))
 sound (size kind cs a) h = h
+sound (at-limit x a) h = h
 
 all-sound : (ls : List Line) → AllComputed ls → AllHold ls
 all-sound [] h = tt

@@ -9,6 +9,7 @@ use Rattle.terms.specs.Answer.{Answer, refusal, result}
 use Rattle.terms.specs.Component.{mostOf, stackOf, countOf}
 use Rattle.folding.specs.declared.Placement.{Placement}
 use Rattle.folding.specs.declared.Outline.{Outline}
+use Rattle.fold.specs.Calls.{foldChecks}
 use Rattle.folding.specs.Best.{BestForHeight, BestForWidth, UnmeetableHeight, UnmeetableWidth, Listing}
 
 pub data Line : Type 0 where
@@ -16,8 +17,9 @@ pub data Line : Type 0 where
   to-width : Kind → List Component → ℕ → Answer Outline → Line
   table : Kind → List Component → List Outline → Line
   size : Kind → List Component → Answer ℕ → Line
+  at-limit : ℕ → Answer ℕ → Line
 
--- "refused with 9", or the best folding's outline; the table; the refusals of a list of components.
+-- "refused with 9", or the best folding's outline; the table; the refusals of a list of components; those of a limit, for one component and buffers just long enough.
 abbrev pub Holds : Line → Type 0
 Holds (to-height kind cs limit (refusal k)) = (k ≡ 9) × UnmeetableHeight kind cs limit
 Holds (to-height kind cs limit (result o)) = (ps : List Placement) × BestForHeight kind cs limit ps o
@@ -25,6 +27,7 @@ Holds (to-width kind cs limit (refusal k)) = (k ≡ 9) × UnmeetableWidth kind c
 Holds (to-width kind cs limit (result o)) = (ps : List Placement) × BestForWidth kind cs limit ps o
 Holds (table kind cs os) = Listing kind cs os
 Holds (size kind cs a) = countOf (stackOf (mostOf kind) cs) ≡ a
+Holds (at-limit x a) = foldChecks x 3 8192 1 1 ≡ a
 
 abbrev pub AllHold : List Line → Type 0
 AllHold [] = Unit {0}
@@ -85,4 +88,6 @@ lines =
     ∷ size Apart (units 257) (refusal 4)
     ∷ size Apart (c 4000 1 0 ∷ []) (result 1)
     ∷ size Apart (c 4001 1 0 ∷ []) (refusal 5)
+    ∷ at-limit 2000000 (result 1)
+    ∷ at-limit 2000001 (refusal 7)
     ∷ []

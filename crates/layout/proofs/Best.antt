@@ -16,11 +16,12 @@ use Rattle.folding.specs.Best.{keepsHeight, keepsWidth, BestForHeight, BestForW
 use Rattle.folding.proofs.Rules.{LegalFrom, legal-is, legal-of}
 use Rattle.group.specs.Group.{none}
 use Rattle.group.proofs.Chains.{order}
+use Rattle.group.proofs.Laws.{components-placed}
 use Rattle.layout.specs.Layout.{Layout, layoutOf}
 use Rattle.layout.specs.Table.{outline}
 use Rattle.layout.proofs.Scan.{NoWorse, no-wider}
 use Rattle.layout.proofs.Lower.{nothing-better}
-use Rattle.layout.proofs.Folds.{Folds, placed-components, placed-length}
+use Rattle.layout.proofs.Folds.{Folds, placed-length}
 use Rattle.layout.proofs.Reach.{met-keeps, reach}
 use Rattle.layout.proofs.Bounds.{layouts-fair}
 use Rattle.layout.proofs.Heights.{AllGaps, legal-most, legal-some}
@@ -30,7 +31,7 @@ some-height : (kind : Kind) (m g0 : ℕ) (cs : List Component) (ps : List Placem
 unfolding placedOf
 some-height kind m g0 [] ps p e f s = absurd (omega arith)
 some-height kind m g0 (c ∷ cs) [] p e f s = absurd (omega arith)
-some-height kind m g0 (c ∷ cs) (q ∷ ps) p e f s = legal-some kind m g0 (record { component = c; placement = q }) (placedOf cs ps) f (s .0, rw (placed-components cs ps (omega arith)) (s .1))
+some-height kind m g0 (c ∷ cs) (q ∷ ps) p e f s = legal-some kind m g0 (record { component = c; placement = q }) (placedOf cs ps) f (s .0, rw (components-placed cs ps (omega arith)) (s .1))
 
 module _ (kind : Kind) (cs : List Component) (few : length cs ≤ 256) (s : AllSized cs) where
   pub legal-folds : (ps : List Placement) → Legal kind cs ps → LegalFrom kind 0 (placedOf cs ps)
@@ -46,7 +47,7 @@ module _ (kind : Kind) (cs : List Component) (few : length cs ≤ 256) (s : AllS
   pub every-legal : (limit : ℕ) (ps : List Placement) → Legal kind cs ps → keepsHeight kind cs limit ps
       → NoWorse (layoutOf kind limit 0 cs) (outlineOf cs ps .width .0) (outlineOf cs ps .height .0) × (layoutOf kind limit 0 cs .width < none)
   every-legal limit ps l k =
-      let e = placed-components cs ps (l .whole) in
+      let e = components-placed cs ps (l .whole) in
       rw e at (nothing-better kind limit 0 0 (placedOf cs ps) (omega (arith, placed-length cs ps (l .whole))) (legal-folds ps l) (rw e s) k)
 
   pub legal-high : 0 < length cs → (ps : List Placement) → Legal kind cs ps → 0 < outlineOf cs ps .height .0
@@ -54,7 +55,7 @@ module _ (kind : Kind) (cs : List Component) (few : length cs ≤ 256) (s : AllS
 
   pub legal-low : AllGaps cs → (ps : List Placement) → Legal kind cs ps → outlineOf cs ps .height .0 ≤ 2000000
   legal-low g ps l =
-      let e = placed-components cs ps (l .whole) in
+      let e = components-placed cs ps (l .whole) in
       legal-most kind 0 (placedOf cs ps) (legal-folds ps l) (rw e s) (rw e g)
 
   -- For a height.

@@ -14,7 +14,6 @@ use Rattle.folding.proofs.Rules.{LegalFrom}
 use Rattle.folding.proofs.Groups.{paste, paste-width, paste-height}
 use Rattle.folding.proofs.Sides.{Fronted}
 use Rattle.group.specs.Group.{gapAfter}
-use Rattle.group.proofs.Lower.{componentsOf}
 use Rattle.group.proofs.Exact.{GroupFolds}
 use Rattle.group.proofs.Laws.{gap-last}
 
@@ -32,12 +31,6 @@ placed-append [] [] bs qs e = refl
 placed-append [] (p ∷ ps) bs qs e = absurd (omega arith)
 placed-append (a ∷ gs) [] bs qs e = absurd (omega arith)
 placed-append (a ∷ gs) (p ∷ ps) bs qs e = ap (λ (l : List Placed). record { component = a; placement = p } ∷ l) (placed-append gs ps bs qs (omega arith))
-
-pub placed-components : (cs : List Component) (ps : List Placement) → length ps ≡ length cs → componentsOf (placedOf cs ps) ≡ cs
-unfolding placedOf
-placed-components [] ps e = refl
-placed-components (c ∷ cs) [] e = absurd (omega arith)
-placed-components (c ∷ cs) (p ∷ ps) e = ap (λ (l : List Component). c ∷ l) (placed-components cs ps (omega arith))
 
 pub placed-length : (cs : List Component) (ps : List Placement) → length ps ≡ length cs → length (placedOf cs ps) ≡ length cs
 unfolding placedOf

@@ -9,3 +9,4 @@ pub mod Heights
 pub mod Best
 pub mod Table
 pub mod Fuel
+pub mod Columns

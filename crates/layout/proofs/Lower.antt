@@ -20,7 +20,7 @@ use Rattle.group.proofs.Chains.{order}
 use Rattle.group.specs.Rows.{gap}
 use Rattle.group.specs.Group.{none, gapAfter, leastHeight, leastWidth}
 use Rattle.layout.specs.Layout.{Layout, candidate, layouts, layoutOf}
-use Rattle.group.proofs.Lower.{componentsOf}
+use Rattle.group.proofs.Lower.{componentsOf, last-gap}
 use Rattle.group.proofs.Laws.{lower, least-width}
 use Rattle.layout.proofs.Scan.{NoWorse, no-wider, no-worse-trans, joinedLayout, candidate-is, scan-no-worse, later-at}
 
@@ -32,12 +32,6 @@ components-append (x ∷ a) b = ap (λ (l : List Component). x .component ∷ l)
 pub components-length : (a : List Placed) → length (componentsOf a) ≡ length a
 components-length [] = refl
 components-length (x ∷ a) = ap suc (components-length a)
-
-pub components-gap : (a : List Placed) → lastGap a ≡ gapAfter (componentsOf a)
-unfolding lastGap gapAfter
-components-gap [] = refl
-components-gap (x ∷ []) = refl
-components-gap (x ∷ y ∷ a) = components-gap (y ∷ a)
 
 pub components-sized : (a b : List Placed) → AllSized (componentsOf (a ++ b)) → AllSized (componentsOf a) × AllSized (componentsOf b)
 components-sized [] b s = (tt, s)
@@ -99,7 +93,7 @@ module _ (kind : Kind) (limit : ℕ) where
       let n : length (a ++ b) ≡ length a + length b = length-append a b in
       let u : groupWidth (x ∷ a) ≤ 4000 * suc (length a) = width-most (x ∷ a) s1 in
       let v : leastWidth kind g0 (componentsOf (x ∷ a)) limit ≤ groupWidth (x ∷ a) = least-width kind g0 x a l e r s1 limit (omega arith) in
-      let nw : NoWorse (layoutOf kind limit (gapAfter (componentsOf (x ∷ a))) (componentsOf b)) (layoutWidth (groupsOf b)) (layoutHeight (lastGap (x ∷ a)) (groupsOf b)) = rw (← components-gap (x ∷ a)) (ih .no-worse) in
+      let nw : NoWorse (layoutOf kind limit (gapAfter (componentsOf (x ∷ a))) (componentsOf b)) (layoutWidth (groupsOf b)) (layoutHeight (lastGap (x ∷ a)) (groupsOf b)) = rw (← last-gap (x ∷ a)) (ih .no-worse) in
       let rest : Layout = layoutOf kind limit (gapAfter (componentsOf (x ∷ a))) (componentsOf b) in
       let few-rest : rest .width < none = omega (arith, no-wider rest _ _ nw, ih .bound) in
       record {

@@ -17,8 +17,8 @@ use Rattle.layout.specs.Plan.{PlannedAt, Planned}
 use Rattle.plan.specs.declared.Best.{Best}
 use Rattle.plan.specs.Asks.{layoutIn, Later, FirstAsks, FromAsks, PlanAsks, PlannedFrom, gapBefore}
 use Rattle.plan.proofs.Gaps.{gap-near}
-use Rattle.plan.proofs.Columns.{components-length, component-at, components-drop}
-use Rattle.plan.proofs.Scanning.{lists-drop}
+use Rattle.plan.proofs.Columns.{component-at}
+use Rattle.layout.proofs.Columns.{components-length, components-drop, lists-drop}
 
 module _ (kind : Kind) (limit : ℕ) where
   pub layouts-drop : (cs : List Component) (g0 k : ℕ) (d : Component) → k < length cs → drop (suc k) (layouts kind limit g0 cs) ≡ layouts kind limit (gap (getD cs k d)) (drop (suc k) cs)
@@ -65,7 +65,7 @@ module _ {kind : Kind} {limit i : ℕ} {hs ws gs widths heights es : List ℕ} (
 
   first-drops : FirstAsks kind limit (gapBefore gs i) (drop i hs) (drop i ws) (drop i gs) (drop (i + 1) widths) (drop (i + 1) heights) es
   first-drops = record {
-    lists = lists-drop kind hs ws gs i (omega (arith, a .within)) (a .lists);
+    lists = lists-drop (a .lists) i (omega (arith, a .within));
     some = omega (arith, length-drop i hs, a .within);
     limit-most = a .limit-most;
     before = gap-near gs i (a .lists .near);

@@ -1,61 +1,25 @@
 -- The search over all first groups.
-use Prim.Native.Nat.{ℕ, zero, suc, _+_, _-_, _≤_, _<_, max}
+use Prim.Native.Nat.{ℕ, suc, _+_, _≤_, _<_, max}
 use mathlib.Core.Path.{_≡_, refl, sym, ap, subst, _∙_}
-use mathlib.Core.List.{List, [], _∷_}
+use mathlib.Core.List.{List, []}
 use native.Mathlib.Numerals.{add-one}
 use native.Mathlib.Omega.{arith}
-use lib.ListN.{length, getD, take, drop, length-drop}
-use lib.Seq.{length-take-le, getD-take, getD-drop}
+use lib.ListN.{length, getD, take}
+use lib.Seq.{length-take-le}
 use Rattle.terms.specs.declared.Component.{Component}
 use Rattle.terms.specs.declared.Kind.{Kind}
 use Rattle.terms.specs.Component.{componentIn, componentsIn}
 use Rattle.group.specs.Rows.{tall}
 use Rattle.group.specs.Group.{none, widest}
 use Rattle.layout.specs.Layout.{Layout, unmet, candidate, choice, layouts, layoutOf}
-use Rattle.layout.specs.Plan.{StackLists}
 use Rattle.plan.specs.declared.Best.{Best}
 use Rattle.plan.specs.Asks.{layoutIn, GroupAsks, mostRows, FirstAsks, bestTo}
-use Rattle.plan.proofs.Columns.{components-length, component-at, components-take, tall-more, widest-more}
+use Rattle.plan.proofs.Columns.{component-at, tall-more, widest-more}
 use Rattle.layout.proofs.Scan.{no-wider}
 use Rattle.layout.proofs.Prune.{Fair}
 use Rattle.layout.proofs.Bounds.{layouts-fair}
 use Rattle.plan.proofs.Bests.{best-none, best-fair, best-more, best-stop, best-of-all}
-
-take-most : (k : ℕ) (l : List ℕ) (i m : ℕ) → getD l i 0 ≤ m → getD (take k l) i 0 ≤ m
-take-most zero l i m h = omega arith
-take-most (suc k) [] i m h = omega arith
-take-most (suc k) (x ∷ l) zero m h = h
-take-most (suc k) (x ∷ l) (suc i) m h = take-most k l i m h
-
-pub lists-take : (kind : Kind) (hs ws gs : List ℕ) (k : ℕ) → k ≤ length hs → StackLists kind hs ws gs → StackLists kind (take k hs) (take k ws) (take k gs)
-lists-take kind hs ws gs k h s =
-    let a : length (take k hs) ≡ k = length-take-le k hs h in
-    let b : length (take k ws) ≡ k = length-take-le k ws (omega (arith, s .same-widths)) in
-    let d : length (take k gs) ≡ k = length-take-le k gs (omega (arith, s .same-gaps)) in
-    record {
-      same-widths = b ∙ sym a;
-      same-gaps = d ∙ sym a;
-      few = omega (arith, s .few);
-      tall = λ i l. rw (getD-take k hs i 0 (omega arith)) (s .tall i (omega arith));
-      low = λ i. take-most k hs i 4000 (s .low i);
-      wide = λ i l. rw (getD-take k ws i 0 (omega arith)) (s .wide i (omega arith));
-      slim = λ i. take-most k ws i 4000 (s .slim i);
-      near = λ i. take-most k gs i 4000 (s .near i);
-    }
-
-pub lists-drop : (kind : Kind) (hs ws gs : List ℕ) (k : ℕ) → k ≤ length hs → StackLists kind hs ws gs → StackLists kind (drop k hs) (drop k ws) (drop k gs)
-lists-drop kind hs ws gs k h s =
-    let a : length (drop k hs) ≡ length hs - k = length-drop k hs in
-    record {
-      same-widths = omega (arith, length-drop k ws, s .same-widths);
-      same-gaps = omega (arith, length-drop k gs, s .same-gaps);
-      few = omega (arith, s .few);
-      tall = λ i l. rw (getD-drop k hs i 0) (s .tall (k + i) (omega arith));
-      low = λ i. rw (getD-drop k hs i 0) (s .low (k + i));
-      wide = λ i l. rw (getD-drop k ws i 0) (s .wide (k + i) (omega arith));
-      slim = λ i. rw (getD-drop k ws i 0) (s .slim (k + i));
-      near = λ i. rw (getD-drop k gs i 0) (s .near (k + i));
-    }
+use Rattle.layout.proofs.Columns.{components-length, components-take, lists-take}
 
 same-rest : (kind : Kind) (limit g0 : ℕ) (cs : List Component) (p q : Layout) (k : ℕ) → p .width ≡ q .width → p .height ≡ q .height → candidate kind limit g0 cs p k ≡ candidate kind limit g0 cs q k
 same-rest kind limit g0 cs p q k e f = rw (e, f)
@@ -111,7 +75,7 @@ module _ {kind : Kind} {limit g0 : ℕ} {hs ws gs widths heights es : List ℕ} 
             × (rows + x ≡ tall (componentsIn (take (k + 1) hs) (take (k + 1) ws) (take (k + 1) gs))) × (rows + x ≤ 4000000) × (8192 ≤ length now)
         group-asks now n = (
           record {
-            lists = lists-take kind hs ws gs (k + 1) (omega arith) (a .lists);
+            lists = lists-take (a .lists) (k + 1) (omega arith);
             some = omega (arith, length-take-le (k + 1) hs (omega arith));
             limit-most = a .limit-most;
             before = a .before;

@@ -18,10 +18,11 @@ use Rattle.layout.specs.Layout.{Layout, candidate, choice}
 use Rattle.layout.specs.Plan.{StackLists}
 use Rattle.plan.specs.declared.Best.{Best}
 use Rattle.plan.specs.Asks.{layoutIn, GroupAsks}
-use Rattle.plan.proofs.Columns.{components-length, component-at, gap-last, widest-most}
+use Rattle.plan.proofs.Columns.{component-at, gap-last, widest-most}
 use Rattle.layout.proofs.Scan.{candidate-is}
 use Rattle.layout.proofs.Widths.{apart-met, apart-unmet}
 use Rattle.layout.proofs.Prune.{choice-unmet, group-unmet, skip-rest, skip-widest, skip-both}
+use Rattle.layout.proofs.Columns.{components-length}
 
 pub widest-4000 : (kind : Kind) (hs ws gs : List ℕ) → StackLists kind hs ws gs → widest (componentsIn hs ws gs) ≤ 4000
 widest-4000 kind hs ws gs s =

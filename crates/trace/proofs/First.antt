@@ -22,7 +22,8 @@ use Rattle.group.proofs.Exact.{least-reached}
 use Rattle.layout.proofs.Folds.{Folds, folds-join}
 use Rattle.layout.proofs.Reach.{sized-take, restOf, Chosen, chosen}
 use Rattle.trace.specs.Trace.{Met}
-use Rattle.trace.proofs.Columns.{tabulate-take, tabulate-rest}
+use Rattle.group.proofs.Indices.{take-tabulate}
+use Rattle.layout.proofs.Columns.{tabulate-rest}
 
 -- A group's fold is behind at least one and at most all of its components.
 pub point-within : (kind : Kind) (g0 : ℕ) (cs : List Component) (cap p : ℕ) → 0 < length cs → FoldPoint kind g0 cs cap p → (0 < p) × (p ≤ length cs)
@@ -114,7 +115,7 @@ pub placements-behind : (ps : List Placement) (b : List ℕ) (n : ℕ) → lengt
 placements-behind ps b n h =
     let k = length ps in
     let l : List Placement = placementsOf (flatOf ps ++ b) n in
-    let t : take k l ≡ ps = tabulate-take (placementAt (flatOf ps ++ b)) n k h ∙ placements-flat ps b in
+    let t : take k l ≡ ps = take-tabulate (placementAt (flatOf ps ++ b)) n k h ∙ placements-flat ps b in
     let d : drop k l ≡ placementsOf b (n - k) = tabulate-rest (placementAt (flatOf ps ++ b)) n k h ∙ tabulate-same _ _ (n - k) (λ i q. placement-behind (flatOf ps) b k i (flat-length ps)) in
     sym (take-append-drop k l) ∙ rw (t, d) refl
 

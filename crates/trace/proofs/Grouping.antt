@@ -15,7 +15,7 @@ use Rattle.group_table.specs.Table.{Asks}
 use Rattle.group_height.specs.Heights.{HeightAsks}
 use Rattle.group_trace.specs.Trace.{WriteAsks}
 use Rattle.trace.specs.Trace.{GroupAsks, FoldFound, FirstAsks}
-use Rattle.trace.proofs.Columns.{columns-of, components-length, lists-take}
+use Rattle.layout.proofs.Columns.{columns-of, components-length, lists-take}
 use Rattle.trace.proofs.First.{point-within}
 
 least-apart : (kind : Kind) (g0 cap : ℕ) (hs ws gs : List ℕ) → kind ≡ Apart → leastHeight kind g0 (componentsIn hs ws gs) cap ≡ flatHeight g0 (componentsIn hs ws gs)

@@ -1,4 +1,3 @@
-pub mod Columns
 pub mod First
 pub mod Grouping
 pub mod Tracing

@@ -20,7 +20,8 @@ use Rattle.layout.specs.Layout.{layoutOf}
 use Rattle.layout.proofs.Scan.{layout-empty}
 use Rattle.layout.proofs.Folds.{Folds, folds-none}
 use Rattle.trace.specs.Trace.{GroupPut, FirstAsks, Met, TraceAsks, Traced}
-use Rattle.trace.proofs.Columns.{components-length, lists-drop, components-take, components-drop, sized-lists, gap-first}
+use Rattle.group.proofs.Gaps.{gap-behind}
+use Rattle.layout.proofs.Columns.{components-length, lists-drop, components-take, components-drop, sized-lists}
 use Rattle.trace.proofs.First.{point-within, end-bounds, no-wider, rest-met, joined, placements-behind}
 
 -- The part of a list from k on, as it is lent.
@@ -65,7 +66,7 @@ module _ (kind : Kind) (group g0 : ℕ) (hs ws gs widths ends out work : List �
             → Met kind limit gap-before (componentsIn (drop k hs) (drop k ws) (drop k gs)) (drop k widths) (drop k heights) (drop k ends)
         met-rest limit heights m =
             let r = rest-met kind limit g0 (componentsIn hs ws gs) widths heights ends some-in few (sized-lists (a .lists)) m k e in
-            rw (components-drop hs ws gs k k-within, b) (rw (gap-first hs ws gs k k-some k-within) at r)
+            rw (components-drop hs ws gs k k-within, b) (rw (gap-behind hs ws gs k k-some k-within) at r)
 
         pub again : (put work′ : List ℕ) → length put ≡ length out → length work′ ≡ length work
             → TraceAsks kind (group + 1) gap-before (part k hs) (part k ws) (part k gs) (part k widths) (part k ends) (part (3 * k) put) work′
@@ -140,7 +141,7 @@ module _ (kind : Kind) (group g0 : ℕ) (hs ws gs widths ends out work : List �
                 let cs = componentsIn hs ws gs in
                 let r = traced-rest .folds limit (drop k heights) (rw (components-drop hs ws gs k k-within) at (met-rest limit heights m)) in
                 let q : FoldPoint kind g0 (take k cs) (getD widths 0 0 - getD widths k 0) (g .at) = rw (components-take hs ws gs k k-within, d) at (g .point) in
-                let j = joined kind limit g0 cs widths heights ends some-in few (sized-lists (a .lists)) m k e group (g .at) (placementsOf new (length (drop k cs))) q (rw (gap-first hs ws gs k k-some k-within, ← b) r) in
+                let j = joined kind limit g0 cs widths heights ends some-in few (sized-lists (a .lists)) m k e group (g .at) (placementsOf new (length (drop k cs))) q (rw (gap-behind hs ws gs k k-some k-within, ← b) r) in
                 rw (placements-behind ps new (length cs) (omega (arith, ps-long, n-is, k-within)), ps-long, ps-is, d, ← length-drop k cs) j
 
             pub done : Traced kind group g0 (componentsIn hs ws gs) widths ends out (putMid (3 * k) (length put - 3 * k) put new)

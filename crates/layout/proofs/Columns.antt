@@ -1,6 +1,6 @@
 -- The columns of a stack, and those of its first components and of the rest.
 use Prim.Native.Nat.{ℕ, zero, suc, _+_, _-_, _≤_, _<_}
-use mathlib.Core.Path.{_≡_, refl, sym, ap, _∙_}
+use mathlib.Core.Path.{_≡_, sym, _∙_}
 use mathlib.Core.List.{List, [], _∷_, _++_}
 use native.Mathlib.Omega.{arith}
 use lib.ListN.{length, getD, take, drop, length-drop}
@@ -10,10 +10,9 @@ use Rattle.terms.specs.declared.Kind.{Kind}
 use Rattle.terms.specs.Component.{tabulate, componentIn, componentsIn}
 use Rattle.terms.proofs.Tabulate.{tabulate-length, tabulate-at, tabulate-same}
 use Rattle.terms.proofs.Lists.{Sized, AllSized}
-use Rattle.group.specs.Rows.{gap}
-use Rattle.group.specs.Group.{gapAfter}
 use Rattle.group.specs.Table.{Columns}
+use Rattle.group.proofs.Indices.{take-tabulate}
 use Rattle.layout.specs.Plan.{StackLists}
 
 pub columns-of : {kind : Kind} {hs ws gs : List ℕ} → StackLists kind hs ws gs → Columns hs ws
 columns-of s = record { same = s .same-widths; low = s .low; slim = s .slim }
@@ -62,12 +61,6 @@ module _ {kind : Kind} {hs ws gs : List ℕ} (s : StackLists kind hs ws gs) (k :
       }
 
 module _ {A : Type 0} (g : ℕ → A) (n k : ℕ) (h : k ≤ n) where
-  pub tabulate-take : take k (tabulate g n) ≡ tabulate g k
-  tabulate-take =
-      let a = length-take-le k (tabulate g n) (omega (arith, tabulate-length g n)) in
-      ext-getD (g 0) (take k (tabulate g n)) (tabulate g k) (a ∙ sym (tabulate-length g k))
-      (λ i l. getD-take k (tabulate g n) i (g 0) (omega arith) ∙ tabulate-at g n i (g 0) (omega arith) ∙ sym (tabulate-at g k i (g 0) (omega arith)))
-
   pub tabulate-rest : drop k (tabulate g n) ≡ tabulate (λ i. g (k + i)) (n - k)
   tabulate-rest =
       let a = length-drop k (tabulate g n) in
@@ -78,7 +71,7 @@ module _ {A : Type 0} (g : ℕ → A) (n k : ℕ) (h : k ≤ n) where
 module _ (hs ws gs : List ℕ) (k : ℕ) (h : k ≤ length hs) where
   pub components-take : componentsIn (take k hs) (take k ws) (take k gs) ≡ take k (componentsIn hs ws gs)
   components-take =
-      rw (length-take-le k hs h, tabulate-take (componentIn hs ws gs) (length hs) k h)
+      rw (length-take-le k hs h, take-tabulate (componentIn hs ws gs) (length hs) k h)
       (tabulate-same (componentIn (take k hs) (take k ws) (take k gs)) (componentIn hs ws gs) k (λ i l. rw (getD-take k hs i 0 l, getD-take k ws i 0 l, getD-take k gs i 0 l)))
 
   pub components-drop : componentsIn (drop k hs) (drop k ws) (drop k gs) ≡ drop k (componentsIn hs ws gs)
@@ -99,18 +92,3 @@ pub sized-lists : {kind : Kind} {hs ws gs : List ℕ} → StackLists kind hs ws 
 sized-lists {hs = hs} {ws = ws} {gs = gs} s =
     sized-tabulate (componentIn hs ws gs) (length hs)
     (λ i l. record { height-some = s .tall i l; height-most = s .low i; width-some = s .wide i l; width-most = s .slim i })
-
-gap-last : (cs : List Component) (c : Component) → gapAfter (cs ++ (c ∷ [])) ≡ gap c
-unfolding gapAfter
-gap-last [] c = refl
-gap-last (d ∷ []) c = refl
-gap-last (d ∷ e ∷ cs) c = gap-last (e ∷ cs) c
-
-gap-tabulate : (g : ℕ → Component) (k : ℕ) → gapAfter (tabulate g (suc k)) ≡ gap (g k)
-unfolding tabulate
-gap-tabulate g k = gap-last (tabulate g k) (g k)
-
-pub gap-first : (hs ws gs : List ℕ) (k : ℕ) → 0 < k → k ≤ length hs → gapAfter (take k (componentsIn hs ws gs)) ≡ getD gs (k - 1) 0
-gap-first hs ws gs k p h =
-    let e : suc (k - 1) ≡ k = omega arith in
-    rw (tabulate-take (componentIn hs ws gs) (length hs) k h) (ap (λ (n : ℕ). gapAfter (tabulate (componentIn hs ws gs) n)) (sym e) ∙ gap-tabulate (componentIn hs ws gs) (k - 1))

@@ -1,0 +1,30 @@
+-- What the functions inside this crate promise each other. Nothing here is part of a public promise.
+use Prim.Native.Nat.{ℕ, _+_, _*_, _≤_}
+use mathlib.Core.Path.{_≡_}
+use mathlib.Core.List.{List, _++_}
+use lib.ListN.{length, take, drop}
+use Rattle.terms.specs.declared.Component.{Component}
+use Rattle.terms.specs.declared.Kind.{Kind}
+use Rattle.folding.specs.declared.Outline.{Outline}
+use Rattle.layout.specs.Table.{outlines}
+use Rattle.fold_table.specs.Calls.{pairsOf}
+
+-- The outlines of at most so many rows, and all of them: no folding is higher.
+abbrev pub outlinesTo : Kind → List Component → ℕ → List Outline
+outlinesTo kind cs limit = outlines kind cs limit limit
+
+abbrev pub allOutlines : Kind → List Component → List Outline
+allOutlines kind cs = outlinesTo kind cs 2000000
+
+-- n of them are counted, those of at most `limit` rows are not.
+pub record CountedTo (kind : Kind) (cs : List Component) (limit n : ℕ) : Type 0 where
+  pub most : limit ≤ 2000000
+  pub rest : n + length (outlinesTo kind cs limit) ≡ length (allOutlines kind cs)
+
+-- The first `at` numbers of the buffer are written, and the pairs of at most `limit` rows are not.
+pub record WrittenTo (kind : Kind) (cs : List Component) (old new : List ℕ) (limit at : ℕ) : Type 0 where
+  pub most : limit ≤ 2000000
+  pub front : take at new ++ pairsOf (outlinesTo kind cs limit) ≡ pairsOf (allOutlines kind cs)
+  pub beyond : drop at new ≡ drop at old
+  pub long : length new ≡ length old
+  pub rest : at + 2 * length (outlinesTo kind cs limit) ≡ 2 * length (allOutlines kind cs)

@@ -1,0 +1,40 @@
+use native.Mathlib.Omega.{arith}
+use mathlib.Core.Path.{_≡_, refl, sym, _∙_}
+use denote.Ref.{now}
+use borrow.Author.Needs.{needs}
+use borrow.Author.Needs.{needs}
+use Rattle.interface.proofs.folds_read.Statement.{statement}
+use Rattle.interface.proofs.folds_read.Tie as tie
+use Rattle.interface.proofs.folds_read.Reads as reads
+use Rattle.interface.proofs.folds_read.Lts as lts
+use Rattle.interface.proofs.counted.Reads as counted-reads
+use Rattle.stack.proofs.read.Reads as read-reads
+
+-- src/lib.rt:95:13
+read-requires : tie.Need-read-requires
+read-requires c κs = search needs
+
+-- src/lib.rt:95:5
+counted-requires : tie.Need-counted-requires
+counted-requires c κs = search needs
+
+-- src/lib.rt:88:1
+same-length : tie.Need-same-length
+same-length c = search needs
+
+-- src/lib.rt:88:1
+same-length-2 : tie.Need-same-length-2
+same-length-2 c = search needs
+
+-- src/lib.rt:88:1
+same-length-3 : tie.Need-same-length-3
+same-length-3 c = search needs
+
+-- src/lib.rt:88:1
+returns : tie.Need-returns
+returns c = (rw (c .counted .ensures, c .before .before .before .before .before .before .before .read .ensures .answer), (c .before .before .before .before .before .before .before .read .ensures .heights-hold, (c .before .before .before .before .before .before .before .read .ensures .widths-hold, c .before .before .before .before .before .before .before .read .ensures .gaps-hold)))
+
+pub folds-read-spec : {M : Type 1} → statement M
+folds-read-spec =
+    tie.close
+    (tie.spec read-requires counted-requires same-length same-length-2 same-length-3 returns)

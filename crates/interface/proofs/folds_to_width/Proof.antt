@@ -1,0 +1,48 @@
+use Rattle.interface.proofs.Codes.{outline-said}
+use native.Mathlib.Omega.{arith}
+use mathlib.Core.Path.{_≡_, refl, sym, _∙_}
+use denote.Ref.{now}
+use borrow.Author.Needs.{needs}
+use borrow.Author.Needs.{needs}
+use Rattle.interface.proofs.folds_to_width.Statement.{statement}
+use Rattle.interface.proofs.folds_to_width.Tie as tie
+use Rattle.interface.proofs.folds_to_width.Reads as reads
+use Rattle.interface.proofs.folds_to_width.Lts as lts
+use Rattle.fold.proofs.fold_to_width.Reads as fold-to-width-reads
+use Rattle.interface.proofs.kind_of.Reads as kind-of-reads
+use Rattle.interface.proofs.measured.Reads as measured-reads
+
+-- src/lib.rt:182:9
+kind-of-requires : tie.Need-kind-of-requires
+kind-of-requires c κs = search needs
+
+-- src/lib.rt:183:14
+fold-to-width-requires : tie.Need-fold-to-width-requires
+fold-to-width-requires c κs = search needs
+
+-- src/lib.rt:183:5
+measured-requires : tie.Need-measured-requires
+measured-requires c κs = search needs
+
+-- src/lib.rt:172:1
+same-length : tie.Need-same-length
+same-length c = search needs
+
+-- src/lib.rt:172:1
+same-length-2 : tie.Need-same-length-2
+same-length-2 c = search needs
+
+-- src/lib.rt:172:1
+returns : tie.Need-returns
+returns c = rw (c .measured .ensures, outline-said (c .before .before .before .before .before .fold-to-width .result)) (rw (c .before .before .before .before .before .before .before .before .kind-of .ensures) at (c .before .before .before .before .before .fold-to-width .ensures))
+
+pub folds-to-width-spec : {M : Type 1} → statement M
+folds-to-width-spec =
+    tie.close
+    (tie.spec
+    kind-of-requires
+    fold-to-width-requires
+    measured-requires
+    same-length
+    same-length-2
+    returns)

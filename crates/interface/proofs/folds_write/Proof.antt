@@ -1,0 +1,30 @@
+use native.Mathlib.Omega.{arith}
+use mathlib.Core.Path.{_≡_, refl, sym, _∙_}
+use denote.Ref.{now}
+use borrow.Author.Needs.{needs}
+use borrow.Author.Needs.{needs}
+use Rattle.interface.proofs.folds_write.Statement.{statement}
+use Rattle.interface.proofs.folds_write.Tie as tie
+use Rattle.interface.proofs.folds_write.Reads as reads
+use Rattle.interface.proofs.folds_write.Lts as lts
+use Rattle.interface.proofs.written.Reads as written-reads
+use Rattle.stack_write.proofs.write.Reads as write-reads
+
+-- src/lib.rt:122:13
+write-requires : tie.Need-write-requires
+write-requires c κs = search needs
+
+-- src/lib.rt:122:5
+written-requires : tie.Need-written-requires
+written-requires c κs = search needs
+
+-- src/lib.rt:117:1
+same-length : tie.Need-same-length
+same-length c = search needs
+
+-- src/lib.rt:117:1
+returns : tie.Need-returns
+returns c = (rw (c .written .ensures, c .before .before .before .write .ensures .answer), c .before .before .before .write .ensures .holds)
+
+pub folds-write-spec : {M : Type 1} → statement M
+folds-write-spec = tie.close (tie.spec write-requires written-requires same-length returns)

@@ -1,0 +1,184 @@
+// The calls for C and Rust: numbers and slices only.
+use folding::Measured;
+use stack_write::Written;
+use terms::{Counted, Kind, Rows, Slices};
+ghost use Prim.Native.Nat.{_+_, _*_, _≤_};
+ghost use mathlib.Core.Path.{_≡_};
+ghost use lib.ListN.{length, take, drop};
+ghost use Rattle.terms.specs.Answer.{refusal, countAnswer};
+ghost use Rattle.terms.specs.Component.{countOf};
+ghost use Rattle.terms.specs.declared.Kind.the-variants.{Apart};
+ghost use Rattle.stack.specs.File.{checkOf};
+ghost use Rattle.stack.specs.Calls.{readOf, readInto, lookupOf};
+ghost use Rattle.stack_write.specs.Call.{writtenAnswer, writeOf, lengthOf, writeInto};
+ghost use Rattle.folding.specs.Calls.{measuredAnswer, measureOf};
+ghost use Rattle.fold.specs.Calls.{ToHeight, ToWidth};
+ghost use Rattle.interface.specs.Codes.{kindOf, countCode, outlineCode, outlineOfCode, partCode, choiceCode};
+
+// A number of components, bytes or pairs.
+#[repr(C)]
+pub struct Count {
+    pub refusal: u32,
+    pub count: usize,
+}
+
+#[repr(C)]
+pub struct Extent {
+    pub refusal: u32,
+    pub width: u32,
+    pub height: u32,
+}
+
+#[repr(C)]
+pub struct Part {
+    pub start: usize,
+    pub length: usize,
+}
+
+fn kind_of(nested: bool) -> Kind
+    ensures { λ r. ⌜ r ≡ kindOf nested ⌝ }
+{
+    if nested {
+        return Kind::Nested;
+    }
+    Kind::Apart
+}
+
+fn counted(a: Counted) -> Count
+    ensures { λ r. ⌜ r ≡ countCode (countAnswer a) ⌝ }
+{
+    match a {
+        Counted::Components(n) => Count { refusal: 0, count: n },
+        Counted::Refused(k) => Count { refusal: k.number(), count: 0 },
+    }
+}
+
+fn written(a: Written) -> Count
+    ensures { λ r. ⌜ r ≡ countCode (writtenAnswer a) ⌝ }
+{
+    match a {
+        Written::Bytes(n) => Count { refusal: 0, count: n },
+        Written::Refused(k) => Count { refusal: k.number(), count: 0 },
+    }
+}
+
+fn measured(a: Measured) -> Extent
+    ensures { λ r. ⌜ r ≡ outlineCode (measuredAnswer a) ⌝ }
+{
+    match a {
+        Measured::Outlined(o) => Extent {
+            refusal: 0,
+            width: o.width.0,
+            height: o.height.0,
+        },
+        Measured::Refused(k) => Extent {
+            refusal: k.number(),
+            width: 0,
+            height: 0,
+        },
+    }
+}
+
+#[no_mangle]
+pub extern "C" fn folds_check(file: &[u8], nested: bool) -> Count
+    ensures { λ r. ⌜ r ≡ countCode (countOf (checkOf (kindOf nested) (now (file .entry)))) ⌝ }
+{
+    counted(stack::check(file, kind_of(nested)))
+}
+
+#[no_mangle]
+pub extern "C" fn folds_read(file: &[u8], heights: &mut [u16], widths: &mut [u16], gaps: &mut [u16]) -> Count
+    ensures { λ r. ⌜ r ≡ countCode (countOf (readOf Apart (now (file .entry)) (length (now (heights .entry))) (length (now (widths .entry))) (length (now (gaps .entry))))) ⌝ }
+    ensures { λ _. ⌜ now (heights .exit) ≡ readInto (readOf Apart (now (file .entry)) (length (now (heights .entry))) (length (now (widths .entry))) (length (now (gaps .entry)))) (λ c. c .height .0) (now (heights .entry)) ⌝ }
+    ensures { λ _. ⌜ now (widths .exit) ≡ readInto (readOf Apart (now (file .entry)) (length (now (heights .entry))) (length (now (widths .entry))) (length (now (gaps .entry)))) (λ c. c .width .0) (now (widths .entry)) ⌝ }
+    ensures { λ _. ⌜ now (gaps .exit) ≡ readInto (readOf Apart (now (file .entry)) (length (now (heights .entry))) (length (now (widths .entry))) (length (now (gaps .entry)))) (λ c. c .gap .0) (now (gaps .entry)) ⌝ }
+{
+    counted(stack::read(file, heights, widths, gaps))
+}
+
+#[no_mangle]
+pub extern "C" fn folds_lookup(file: &[u8], number: usize) -> Part
+    ensures { λ r. ⌜ r ≡ partCode (checkOf Apart (now (file .entry))) number ⌝ }
+    ensures { λ r. ⌜ take (r .length) (drop (r .start) (now (file .entry))) ≡ lookupOf (now (file .entry)) number ⌝ }
+{
+    match stack::check(file, Kind::Apart) {
+        Counted::Refused(_) => Part { start: 0, length: 0 },
+        Counted::Components(n) => {
+            if number < 1 {
+                return Part { start: 0, length: 0 };
+            }
+            if n < number {
+                return Part { start: 0, length: 0 };
+            }
+            Part { start: 7 + 6 * (number - 1), length: 6 }
+        }
+    }
+}
+
+#[no_mangle]
+pub extern "C" fn folds_write(heights: &[u16], widths: &[u16], gaps: &[u16], file: &mut [u8]) -> Count
+    ensures { λ r. ⌜ r ≡ countCode (lengthOf (writeOf (now (heights .entry)) (now (widths .entry)) (now (gaps .entry)) (length (now (file .entry))))) ⌝ }
+    ensures { λ _. ⌜ now (file .exit) ≡ writeInto (writeOf (now (heights .entry)) (now (widths .entry)) (now (gaps .entry)) (length (now (file .entry)))) (now (file .entry)) ⌝ }
+{
+    written(stack_write::write(heights, widths, gaps, file))
+}
+
+#[no_mangle]
+pub extern "C" fn folds_measure(file: &[u8], nested: bool, placements: &[u32]) -> Extent
+    ensures { λ r. ⌜ r ≡ outlineCode (measureOf (kindOf nested) (now (file .entry)) (now (placements .entry))) ⌝ }
+{
+    measured(folding::measure(file, kind_of(nested), placements))
+}
+
+fn choice(a: Measured, b: Measured) -> u32
+    ensures { λ r. ⌜ r ≡ choiceCode (measuredAnswer a) (measuredAnswer b) ⌝ }
+{
+    match a {
+        Measured::Refused(_) => 0,
+        Measured::Outlined(o) => match b {
+            Measured::Refused(_) => 0,
+            Measured::Outlined(p) => {
+                if folding::second_wins(o, p) {
+                    return 2;
+                }
+                1
+            }
+        },
+    }
+}
+
+#[no_mangle]
+pub extern "C" fn folds_choose(file: &[u8], nested: bool, first: &[u32], second: &[u32]) -> u32
+    ensures { λ r. ⌜ r ≡ choiceCode (measureOf (kindOf nested) (now (file .entry)) (now (first .entry))) (measureOf (kindOf nested) (now (file .entry)) (now (second .entry))) ⌝ }
+{
+    let kind = kind_of(nested);
+    choice(folding::measure(file, kind, first), folding::measure(file, kind, second))
+}
+
+#[no_mangle]
+pub extern "C" fn folds_to_height(
+    file: &[u8],
+    nested: bool,
+    limit: u32,
+    placements: &mut [u32],
+    work: &mut [u32],
+) -> Extent
+    ensures { λ r. ⌜ ToHeight (kindOf nested) (now (file .entry)) limit (now (placements .entry)) (now (work .entry)) (outlineOfCode r) (now (placements .exit)) (now (work .exit)) ⌝ }
+{
+    let kind = kind_of(nested);
+    measured(fold::fold_to_height(file, kind, Rows(limit), placements, work))
+}
+
+#[no_mangle]
+pub extern "C" fn folds_to_width(
+    file: &[u8],
+    nested: bool,
+    limit: u32,
+    placements: &mut [u32],
+    work: &mut [u32],
+) -> Extent
+    ensures { λ r. ⌜ ToWidth (kindOf nested) (now (file .entry)) limit (now (placements .entry)) (now (work .entry)) (outlineOfCode r) (now (placements .exit)) (now (work .exit)) ⌝ }
+{
+    let kind = kind_of(nested);
+    measured(fold::fold_to_width(file, kind, Slices(limit), placements, work))
+}

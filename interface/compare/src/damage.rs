@@ -1,0 +1,234 @@
+//! Damaged files, foldings, limits and buffers. The own rules say which refusal each must have, if any.
+
+use crate::calls::{same, Call, Caller, Compared, FoldCall};
+use crate::front::{best, Toward};
+use crate::rng::Rng;
+use crate::rows;
+use crate::rules::{self, WORK};
+use crate::stack::{self, Component, SHAPES};
+
+/// Above this the row search would take too long; the answer is then held only to the checks that need none.
+const MOST_STATES: u64 = 20_000;
+
+pub const CALLS: [Call; 9] = [
+    Call::Check,
+    Call::Read,
+    Call::Lookup,
+    Call::Write,
+    Call::Measure,
+    Call::Choose,
+    Call::Fold(Toward::Height),
+    Call::Fold(Toward::Width),
+    Call::Table,
+];
+
+/// One call on damaged input.
+pub fn case(caller: &mut Caller, call: Call, file: &[u8], nested: bool) -> Compared<()> {
+    let rng = &mut caller.rng;
+    let n = file.len().saturating_sub(7) / 6;
+    match call {
+        Call::Check => caller.check(file, nested),
+        Call::Read => {
+            let lengths = [(); 3].map(|_| length(rng, n));
+            caller.read(file, lengths)
+        }
+        Call::Lookup => {
+            let number = rng.pick(&[0, 1, n / 2, n, n + 1, usize::MAX]);
+            caller.lookup(file, number)
+        }
+        Call::Write => write(caller, file),
+        Call::Measure => {
+            let folding = damaged_folding(rng, file, nested);
+            caller.measure(file, nested, &folding)
+        }
+        Call::Choose => choose(caller, file, nested),
+        Call::Fold(toward) => fold(caller, file, nested, toward),
+        Call::Table => table(caller, file, nested),
+    }
+}
+
+/// A file with up to three damages, so that the order of refusals shows. Some have none: then it is the folding, the limit
+/// or a buffer that may be wrong.
+pub fn damaged_file(rng: &mut Rng, call: Call, nested: bool) -> Vec<u8> {
+    let (count, shape) = (1 + rng.below(6), rng.pick(&SHAPES));
+    let mut file = stack::file(&stack::random(rng, count, shape));
+    for _ in 0..rng.pick(&[0, 0, 1, 1, 2, 3]) {
+        damage_file(rng, &mut file, call, nested);
+    }
+    file
+}
+
+fn damage_file(rng: &mut Rng, file: &mut Vec<u8>, call: Call, nested: bool) {
+    match rng.below(8) {
+        0 => flip(rng, file, usize::MAX),
+        1 => flip(rng, file, 7),
+        2 => file.truncate(rng.below(file.len() + 1)),
+        3 => file.extend((0..1 + rng.below(7)).map(|_| rng.next() as u8).collect::<Vec<u8>>()),
+        4 => put(file, 5, rng.pick(&[0, 1, 2, 7, 64, 65, 256, 257, 65535])),
+        5 => put(file, 3, rng.pick(&[0, 1, 2, 256, 65535])),
+        6 => resize(rng, file, call, nested),
+        _ => bad_number(rng, file),
+    }
+}
+
+fn flip(rng: &mut Rng, file: &mut [u8], before: usize) {
+    if !file.is_empty() {
+        let at = rng.below(file.len().min(before));
+        file[at] ^= 1 << rng.below(8);
+    }
+}
+
+fn put(file: &mut [u8], at: usize, number: u16) {
+    if at + 2 <= file.len() {
+        file[at..at + 2].copy_from_slice(&number.to_le_bytes());
+    }
+}
+
+/// Another number of components, right in count and length. Long nested stacks take too long to fold by the thousand.
+fn resize(rng: &mut Rng, file: &mut Vec<u8>, call: Call, nested: bool) {
+    let slow = nested && matches!(call, Call::Fold(_) | Call::Table);
+    let count = rng.pick(if slow { &[0, 1, 65, 257] } else { &[0, 1, 64, 65, 256, 257] });
+    file.truncate(7);
+    put(file, 5, count);
+    for i in 0..count {
+        let gap = if i + 1 < count { rng.below(2) as u16 } else { 0 };
+        for number in [rng.within(1, 3) as u16, rng.within(1, 5) as u16, gap] {
+            file.extend(number.to_le_bytes());
+        }
+    }
+}
+
+/// A height, width or gap at the edge of its range, or past it.
+fn bad_number(rng: &mut Rng, file: &mut [u8]) {
+    let components = file.len().saturating_sub(7) / 6;
+    if components > 0 {
+        let last = if rng.one_in(3) { components - 1 } else { rng.below(components) };
+        let number = rng.pick(&[0, 1, 4000, 4001, 32768, 65535]);
+        put(file, 7 + 6 * last + 2 * rng.below(3), number);
+    }
+}
+
+/// A buffer's length: what is needed, a little more, or less.
+fn length(rng: &mut Rng, need: usize) -> usize {
+    match rng.below(6) {
+        0 => need.saturating_sub(1 + rng.below(3)),
+        1 => rng.below(need + 1),
+        2 | 3 => need + rng.below(5),
+        _ => need,
+    }
+}
+
+fn work_length(rng: &mut Rng) -> usize {
+    rng.pick(&[WORK, WORK, WORK, WORK, WORK + 5, WORK - 1, 0])
+}
+
+fn fold(caller: &mut Caller, file: &[u8], nested: bool, toward: Toward) -> Compared<()> {
+    let rng = &mut caller.rng;
+    let limit = match rng.below(6) {
+        0 => rng.pick(&[0, 2_000_001, u32::MAX]),
+        1 => rng.pick(&[1, 4000, 2_000_000]),
+        _ => rng.within(1, 30),
+    };
+    let room = length(rng, 3 * (file.len().saturating_sub(7) / 6));
+    let call = FoldCall { file, nested, toward, limit, room, work: work_length(rng) };
+    let answer = caller.fold(&call)?;
+    match rules::fold(file, nested, limit, room, call.work) {
+        Ok(stack) if rows::cost(&stack) <= MOST_STATES => {
+            same("fold", answer, best(&rows::table(&stack, nested), toward, limit))
+        }
+        _ => Ok(()),
+    }
+}
+
+fn table(caller: &mut Caller, file: &[u8], nested: bool) -> Compared<()> {
+    let rng = &mut caller.rng;
+    let (room, work) = (rng.below(14), work_length(rng));
+    let answer = caller.table(file, nested, room, work)?;
+    match rules::table(file, nested, work) {
+        Ok(stack) if rows::cost(&stack) <= MOST_STATES => {
+            let own = rows::table(&stack, nested);
+            same("table", answer, if own.len() > room / 2 { Err(8) } else { Ok(own) })
+        }
+        _ => Ok(()),
+    }
+}
+
+fn write(caller: &mut Caller, file: &[u8]) -> Compared<()> {
+    let numbers: Vec<u16> =
+        file.get(7..).unwrap_or(&[]).chunks_exact(2).map(|b| u16::from_le_bytes([b[0], b[1]])).collect();
+    let list = |which: usize| numbers.iter().skip(which).step_by(3).copied().collect::<Vec<u16>>();
+    let mut lists = [list(0), list(1), list(2)];
+    let shortest = lists.iter().map(Vec::len).min().unwrap();
+    lists.iter_mut().for_each(|list| list.truncate(shortest));
+    let rng = &mut caller.rng;
+    if rng.one_in(5) {
+        lists[rng.below(3)].pop();
+    }
+    let room = length(rng, 7 + 6 * shortest);
+    caller.write(lists.each_ref().map(|list| &list[..]), room)
+}
+
+fn choose(caller: &mut Caller, file: &[u8], nested: bool) -> Compared<()> {
+    let rng = &mut caller.rng;
+    let first = damaged_folding(rng, file, nested);
+    // Equal foldings, and foldings of equal outline, are where the first must win.
+    let second = if rng.one_in(3) { first.clone() } else { damaged_folding(rng, file, nested) };
+    caller.choose(file, nested, &first, &second)
+}
+
+/// A folding for the file's stack, or for some other where the file is refused, with up to two damages.
+fn damaged_folding(rng: &mut Rng, file: &[u8], nested: bool) -> Vec<u32> {
+    let other = [Component { height: 1, width: 1, gap: 0 }; 3];
+    let stack = rules::check(file, nested).unwrap_or(other.to_vec());
+    let both_sides = nested || rng.one_in(8);
+    let mut folding = random_folding(rng, &stack, both_sides);
+    for _ in 0..rng.below(3) {
+        damage_folding(rng, &mut folding);
+    }
+    folding
+}
+
+fn damage_folding(rng: &mut Rng, folding: &mut Vec<u32>) {
+    let noise = rng.next() as u32;
+    match rng.below(5) {
+        0 => folding.truncate(rng.below(folding.len() + 1)),
+        1 => folding.extend([noise, noise, 0, 0].iter().take(1 + rng.below(4))),
+        _ if folding.len() < 3 => {}
+        2 => {
+            let from = rng.below(folding.len() / 3);
+            folding.iter_mut().skip(3 * from).step_by(3).for_each(|group| *group = group.wrapping_add(1));
+        }
+        _ => {
+            let (at, which) = (rng.below(folding.len() / 3), rng.below(3));
+            let number = &mut folding[3 * at + which];
+            let next_to = [number.wrapping_add(1), number.wrapping_sub(1)];
+            *number = match which {
+                0 => rng.pick(&[next_to[0], next_to[1], 0, u32::MAX]),
+                1 => rng.pick(&[1 ^ (*number & 1), 0, 1, 2, u32::MAX]),
+                _ => rng.pick(&[next_to[0], next_to[1], 0, next_to[0], next_to[1], 1_024_000, 1_024_001, u32::MAX]),
+            };
+        }
+    }
+}
+
+/// A legal folding of the kind, with empty rows here and there.
+fn random_folding(rng: &mut Rng, stack: &[Component], nested: bool) -> Vec<u32> {
+    let mut folding = vec![0; 3 * stack.len()];
+    let (mut first, mut group) = (0, 0);
+    while first < stack.len() {
+        let end = first + 1 + rng.below((stack.len() - first).min(6));
+        let right = if nested { first + 1 + rng.below(end - first) } else { end };
+        let mut side = |components: &mut dyn Iterator<Item = usize>, side: u32| {
+            let mut row = 0;
+            for i in components {
+                row += if rng.one_in(4) { rng.within(1, 2) } else { 0 };
+                folding[3 * i..3 * i + 3].copy_from_slice(&[group, side, row]);
+                row += stack[i].height;
+            }
+        };
+        side(&mut (first..right).rev(), 0);
+        side(&mut (right..end), 1);
+        (first, group) = (end, group + 1);
+    }
+    folding
+}

@@ -1,0 +1,72 @@
+//! Every folding of a small stack, one by one: all groupings, folds, sides and start rows, each measured.
+//!
+//! Start rows are unbounded in document 01 (up to 1,024,000). Here a component may end at most at the sum of the heights
+//! of its group, plus `spare` rows. Nothing is lost: if a group is higher than that sum, one of its rows below the top is
+//! empty, since its components fill at most as many rows as their heights add to. Taking that row out, so that all above it
+//! moves down by one, keeps the order in both sides, changes no other row's sum and lowers T by one. So each folding beyond
+//! the bound is equalled or beaten by one within it. With some spare rows the enumeration tries that argument itself.
+
+use crate::front::Front;
+use crate::measure::{outline, Outline};
+use crate::stack::{total, Component};
+
+struct Search<'a> {
+    stack: &'a [Component],
+    nested: bool,
+    spare: u32,
+    folding: Vec<u32>,
+    front: Front,
+    foldings: u64,
+}
+
+/// The outline table, and how many foldings were measured.
+pub fn table(stack: &[Component], nested: bool, spare: u32) -> (Vec<Outline>, u64) {
+    let folding = vec![0; 3 * stack.len()];
+    let mut search = Search { stack, nested, spare, folding, front: Front::default(), foldings: 0 };
+    search.groups(0, 0);
+    (search.front.table(), search.foldings)
+}
+
+impl Search<'_> {
+    /// All ways to fold the components from `first` on, the next group having this number.
+    fn groups(&mut self, first: usize, number: u32) {
+        if first == self.stack.len() {
+            self.foldings += 1;
+            let one = outline(self.stack, self.nested, &self.folding).expect("only legal foldings are tried");
+            return self.front.add(one);
+        }
+        for end in first + 1..=self.stack.len() {
+            let fold_from = if self.nested { first + 1 } else { end };
+            for right in fold_from..=end {
+                self.start_rows(number, first, right, end, self.chain(first, right, end));
+            }
+        }
+    }
+
+    /// The group's components in the order of their rows: the left side from the fold up, then the right side.
+    fn chain(&self, first: usize, right: usize, end: usize) -> Vec<usize> {
+        (first..right).rev().chain(right..end).collect()
+    }
+
+    /// All start rows for the components left in `chain`; then the groups that follow.
+    fn start_rows(&mut self, number: u32, first: usize, right: usize, end: usize, mut chain: Vec<usize>) {
+        if chain.is_empty() {
+            return self.groups(end, number + 1);
+        }
+        let at = chain.remove(0);
+        let least = match at {
+            _ if at + 1 == right || at == right => 0,
+            _ if at < right => self.end_of(at + 1),
+            _ => self.end_of(at - 1),
+        };
+        let most = total(&self.stack[first..end]) + self.spare;
+        for start in least..=most.saturating_sub(self.stack[at].height) {
+            self.folding[3 * at..3 * at + 3].copy_from_slice(&[number, u32::from(at >= right), start]);
+            self.start_rows(number, first, right, end, chain.clone());
+        }
+    }
+
+    fn end_of(&self, at: usize) -> u32 {
+        self.folding[3 * at + 2] + self.stack[at].height
+    }
+}

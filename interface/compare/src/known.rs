@@ -1,0 +1,76 @@
+//! The stacks and edges that document 01 publishes.
+
+use crate::calls::{same, Caller, Compared, FoldCall};
+use crate::front::Toward::{self, Height, Width};
+use crate::measure::Outline;
+use crate::rules::{Answer, WORK};
+use crate::stack::{file, Component};
+
+fn stack(sizes: &[(u32, u32)]) -> Vec<Component> {
+    sizes.iter().map(|&(height, width)| Component { height, width, gap: 0 }).collect()
+}
+
+fn equal(count: usize, height: u32) -> Vec<Component> {
+    stack(&vec![(height, 1); count])
+}
+
+fn fold(
+    caller: &mut Caller, stack: &[Component], nested: bool, toward: Toward, limit: u32,
+) -> Compared<Answer<Outline>> {
+    caller.fold(&FoldCall { file: &file(stack), nested, toward, limit, room: 3 * stack.len(), work: WORK })
+}
+
+fn outline(width: u32, height: u32) -> Outline {
+    Outline { width, height }
+}
+
+fn table(caller: &mut Caller, stack: &[Component], nested: bool, lines: &[(u32, u32)]) -> Compared<()> {
+    let own = lines.iter().map(|&(width, height)| outline(width, height)).collect();
+    same("a known table", caller.table(&file(stack), nested, 4096, WORK)?, Ok(own))
+}
+
+pub fn stacks(caller: &mut Caller) -> Compared<()> {
+    let a = stack(&[(3, 2)]);
+    let b = stack(&[(3, 1), (1, 1), (2, 1), (4, 1)]);
+    let mut c = stack(&[(1, 1), (1, 1)]);
+    c[0].gap = 5;
+    let d = stack(&[(5, 9), (1, 1), (5, 9), (1, 1), (4, 9), (1, 1)]);
+    let e = stack(&[(1, 3), (1, 1), (1, 1), (1, 3)]);
+    let f = stack(&[(2, 5), (1, 4), (1, 1), (1, 4), (1, 1)]);
+    for nested in [false, true] {
+        same("A, H=2", fold(caller, &a, nested, Height, 2)?, Err(9))?;
+        same("A, H=3", fold(caller, &a, nested, Height, 3)?, Ok(outline(2, 3)))?;
+        same("A, W=1", fold(caller, &a, nested, Width, 1)?, Err(9))?;
+        table(caller, &c, nested, &[(1, 2)])?;
+        same("C, H=1", fold(caller, &c, nested, Height, 1)?, Err(9))?;
+    }
+    same("B, H=5", fold(caller, &b, false, Height, 5)?, Ok(outline(3, 4)))?;
+    same("B, W=2", fold(caller, &b, false, Width, 2)?, Ok(outline(2, 6)))?;
+    table(caller, &b, false, &[(1, 10), (2, 6), (3, 4)])?;
+    same("D, W=10", fold(caller, &d, true, Width, 10)?.map(|o| o.height), Ok(14))?;
+    table(caller, &e, false, &[(3, 4), (6, 2), (8, 1)])?;
+    table(caller, &e, true, &[(3, 3), (6, 2), (8, 1)])?;
+    same("F, H=2", fold(caller, &f, true, Height, 2)?.map(|o| o.width), Ok(10))
+}
+
+/// Sizes, heights and limits that are just in range, and just out of it.
+pub fn edges(caller: &mut Caller) -> Compared<()> {
+    for toward in [Height, Width] {
+        for (nested, most) in [(true, 64), (false, 256)] {
+            same("most components", fold(caller, &equal(most, 1), nested, toward, 8)?.is_ok(), true)?;
+            same("one component more", fold(caller, &equal(most + 1, 1), nested, toward, 8)?, Err(4))?;
+            same("height 4,000", fold(caller, &equal(2, 4000), nested, toward, 4000)?.is_ok(), true)?;
+            same("height 4,001", fold(caller, &equal(2, 4001), nested, toward, 4000)?, Err(5))?;
+            same("limit 2,000,000", fold(caller, &equal(2, 1), nested, toward, 2_000_000)?.is_ok(), true)?;
+            same("limit 2,000,001", fold(caller, &equal(2, 1), nested, toward, 2_000_001)?, Err(7))?;
+        }
+    }
+    for count in [64, 65, 256, 257] {
+        let bytes = file(&equal(count, 4000));
+        caller.check(&bytes, true)?;
+        caller.check(&bytes, false)?;
+        caller.read(&bytes, [count; 3])?;
+        caller.lookup(&bytes, count)?;
+    }
+    Ok(())
+}

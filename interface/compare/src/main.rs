@@ -1,0 +1,158 @@
+//! Compares the library with implementations that share nothing with it. Argument: a seed. Status 1 on a difference.
+
+mod calls;
+mod damage;
+mod enumerate;
+mod front;
+mod known;
+mod measure;
+mod rng;
+mod rows;
+mod rules;
+mod stack;
+mod stacks;
+
+use calls::{Caller, Compared};
+use stack::{random, Component, SHAPES};
+use std::{env, process::ExitCode, time::Instant};
+
+const ENUMERATED: usize = 4_000;
+const SEARCHED: usize = 18_000;
+const SCALED: usize = 3_000;
+const LONG: usize = 60;
+const DAMAGED: usize = 300_000;
+
+fn main() -> ExitCode {
+    let seed = env::args().nth(1).map_or(Ok(1), |word| word.parse::<u64>());
+    let Ok(seed) = seed else {
+        eprintln!("the seed is a number");
+        return ExitCode::FAILURE;
+    };
+    println!("seed {seed}");
+    let mut caller = Caller::new(seed);
+    match all(&mut caller) {
+        Ok(()) => println!("no difference"),
+        Err(report) => {
+            println!("DIFFERENCE (seed {seed})\n{report}");
+            return ExitCode::FAILURE;
+        }
+    }
+    ExitCode::SUCCESS
+}
+
+fn all(caller: &mut Caller) -> Compared<()> {
+    let start = Instant::now();
+    let part = |name: &str, caller: &Caller| {
+        let calls: u64 = caller.answers.iter().sum();
+        println!("{name}; so far {calls} calls, {:.1} s", start.elapsed().as_secs_f64());
+    };
+    known::stacks(caller)?;
+    known::edges(caller)?;
+    part("known stacks and edges", caller);
+    damaged(caller)?;
+    part(&format!("{DAMAGED} damaged files, foldings, limits and buffers"), caller);
+    let foldings = enumerated(caller)?;
+    part(&format!("{ENUMERATED} stacks of 1 to 5 components, {foldings} foldings enumerated"), caller);
+    searched(caller)?;
+    part(&format!("{SEARCHED} stacks of 1 to 12 components, searched row by row"), caller);
+    scaled(caller)?;
+    part(&format!("{SCALED} stacks of 1 to 8 components, scaled up to 4,000"), caller);
+    let lines = long(caller)?;
+    part(&format!("{LONG} stacks of 13 to 256 components, {lines} outlines against both folds"), caller);
+    for (number, count) in caller.answers.iter().enumerate() {
+        println!("  {count:>9} times {}", if number == 0 { "a result".into() } else { format!("refusal {number}") });
+    }
+    Ok(())
+}
+
+/// Adds to a difference the stack that shows it.
+fn told(stack: &[Component], nested: bool) -> impl FnOnce(String) -> String {
+    let sizes = stack.iter().map(|c| format!("{}/{}/{}", c.height, c.width, c.gap)).collect::<Vec<_>>().join(" ");
+    move |what| format!("{what}\n{} stack, height/width/gap: {sizes}", if nested { "nested" } else { "apart" })
+}
+
+fn enumerated(caller: &mut Caller) -> Compared<u64> {
+    let mut foldings = 0;
+    for at in 0..ENUMERATED {
+        let stack = random(&mut caller.rng, 1 + at % 5, SHAPES[at / 5 % SHAPES.len()]);
+        stacks::files(caller, &stack).map_err(told(&stack, false))?;
+        for nested in [false, true] {
+            let spare = if stack.len() <= 3 { 2 } else { 0 };
+            let (own, count) = enumerate::table(&stack, nested, spare);
+            foldings += count;
+            stacks::against(caller, &stack, nested, &own).map_err(told(&stack, nested))?;
+        }
+    }
+    Ok(foldings)
+}
+
+fn searched(caller: &mut Caller) -> Compared<()> {
+    for at in 0..SEARCHED {
+        let stack = random(&mut caller.rng, 1 + at % 12, SHAPES[at / 12 % SHAPES.len()]);
+        for nested in [false, true] {
+            let own = rows::table(&stack, nested);
+            stacks::against(caller, &stack, nested, &own).map_err(told(&stack, nested))?;
+        }
+    }
+    Ok(())
+}
+
+/// Multiplying all rows by one number and all slices by another multiplies the table's: which components may stand side by
+/// side does not change, and the least height is a sum of heights and gaps. So large numbers need no longer search.
+fn scaled(caller: &mut Caller) -> Compared<()> {
+    for at in 0..SCALED {
+        let small = random(&mut caller.rng, 1 + at % 8, SHAPES[at / 8 % SHAPES.len()]);
+        let tallest = small.iter().map(|c| c.height.max(c.gap)).max().unwrap();
+        let widest = small.iter().map(|c| c.width).max().unwrap();
+        let rows = caller.rng.within(1, 4000 / tallest);
+        let slices = caller.rng.within(1, 4000 / widest);
+        let stack = stack::scaled(&small, rows, slices);
+        for nested in [false, true] {
+            let mut own = rows::table(&small, nested);
+            own.iter_mut().for_each(|o| (o.width, o.height) = (o.width * slices, o.height * rows));
+            stacks::against(caller, &stack, nested, &own).map_err(told(&stack, nested))?;
+        }
+    }
+    Ok(())
+}
+
+/// Stacks that no slow implementation reaches: the table and the folds against each other.
+fn long(caller: &mut Caller) -> Compared<usize> {
+    let mut lines = 0;
+    for at in 0..LONG {
+        let nested = at % 2 == 0;
+        // The longest nested stack takes seconds, so there is one.
+        let most = match nested {
+            true if at == 0 => 64,
+            true => 32,
+            false => 256,
+        };
+        let count = if at < 2 { most } else { caller.rng.within(13, most) } as usize;
+        let small = random(&mut caller.rng, count, SHAPES[at / 2 % SHAPES.len()]);
+        let stack = if at % 4 < 2 { noisy(caller, count) } else { small };
+        lines += stacks::with_itself(caller, &stack, nested).map_err(told(&stack, nested))?;
+    }
+    Ok(lines)
+}
+
+/// Heights, widths and gaps over their whole ranges.
+fn noisy(caller: &mut Caller, count: usize) -> Vec<Component> {
+    let rng = &mut caller.rng;
+    let component = |at: usize| Component {
+        height: rng.within(1, 4000),
+        width: rng.within(1, 4000),
+        gap: if at + 1 < count && rng.one_in(2) { rng.within(0, 4000) } else { 0 },
+    };
+    (0..count).map(component).collect()
+}
+
+fn damaged(caller: &mut Caller) -> Compared<()> {
+    for at in 0..DAMAGED {
+        let call = damage::CALLS[at % damage::CALLS.len()];
+        let nested = caller.rng.one_in(2);
+        let file = damage::damaged_file(&mut caller.rng, call, nested);
+        damage::case(caller, call, &file, nested)
+            .map_err(|what| format!("{what}\n{call:?}, nested {nested}, damaged case {at}, file {file:02x?}"))?;
+    }
+    Ok(())
+}

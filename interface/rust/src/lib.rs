@@ -1,0 +1,250 @@
+//! Foldings of a bit-sliced stack: reads and writes stack files, measures foldings, finds the best ones for a height or a
+//! width and lists the unbeaten outlines. Rows and slices are types of their own, so a height cannot be passed as a width.
+//!
+//! ```
+//! use stack_folds::{fold_to_height, write, Component, Kind, Rows, Slices};
+//!
+//! let sizes = [(1, 3), (1, 1), (1, 1), (1, 3)];
+//! let stack = sizes.map(|(h, w)| Component { height: Rows(h), width: Slices(w), gap: Rows(0) });
+//! let file = write(&stack)?;
+//! let folding = fold_to_height(&file, Kind::Nested, Rows(3))?;
+//! assert_eq!(folding.outline.width, Slices(3));
+//! # Ok::<(), stack_folds::Refusal>(())
+//! ```
+
+use std::fmt;
+
+pub mod raw;
+
+/// A number of rows: heights, gaps and start rows.
+#[derive(Clone, Copy, Debug, PartialEq, Eq, PartialOrd, Ord, Hash)]
+pub struct Rows(pub u32);
+
+/// A number of slices: widths.
+#[derive(Clone, Copy, Debug, PartialEq, Eq, PartialOrd, Ord, Hash)]
+pub struct Slices(pub u32);
+
+/// One component of a stack. The gap is the routing height between it and the next one when a fold separates them.
+#[derive(Clone, Copy, Debug, PartialEq, Eq, Hash)]
+pub struct Component {
+    pub height: Rows,
+    pub width: Slices,
+    pub gap: Rows,
+}
+
+/// Which foldings count: apart ones use the left sides only, nested ones both.
+#[derive(Clone, Copy, Debug, PartialEq, Eq, Hash)]
+pub enum Kind {
+    Apart,
+    Nested,
+}
+
+/// The side of a group.
+#[derive(Clone, Copy, Debug, PartialEq, Eq, Hash)]
+pub enum Side {
+    Left,
+    Right,
+}
+
+/// Where a component stands: its group, from 0, the side, and its start row counted from the group's fold.
+#[derive(Clone, Copy, Debug, PartialEq, Eq, Hash)]
+pub struct Placement {
+    pub group: u32,
+    pub side: Side,
+    pub start: Rows,
+}
+
+/// The rectangle that a folding needs.
+#[derive(Clone, Copy, Debug, PartialEq, Eq, Hash)]
+pub struct Outline {
+    pub width: Slices,
+    pub height: Rows,
+}
+
+/// A placement for each component, and the outline of the whole.
+#[derive(Clone, Debug, PartialEq, Eq)]
+pub struct Folding {
+    pub placements: Vec<Placement>,
+    pub outline: Outline,
+}
+
+/// Why there is no result.
+#[derive(Clone, Copy, Debug, PartialEq, Eq, Hash)]
+pub enum Refusal {
+    WrongFile = 1,
+    WrongVersion = 2,
+    WrongLength = 3,
+    StackSize = 4,
+    BadComponent = 5,
+    BadGap = 6,
+    BadLimit = 7,
+    ShortBuffer = 8,
+    Unmeetable = 9,
+    BrokenFolding = 10,
+}
+
+impl Refusal {
+    const ALL: [Refusal; 10] = [
+        Refusal::WrongFile,
+        Refusal::WrongVersion,
+        Refusal::WrongLength,
+        Refusal::StackSize,
+        Refusal::BadComponent,
+        Refusal::BadGap,
+        Refusal::BadLimit,
+        Refusal::ShortBuffer,
+        Refusal::Unmeetable,
+        Refusal::BrokenFolding,
+    ];
+
+    /// The refusal's number.
+    pub fn number(self) -> u32 {
+        self as u32
+    }
+
+    /// The refusal's trade word.
+    pub fn word(self) -> &'static str {
+        const WORDS: [&str; 10] = [
+            "wrong file",
+            "wrong version",
+            "wrong length",
+            "stack size",
+            "bad component",
+            "bad gap",
+            "bad limit",
+            "short buffer",
+            "unmeetable",
+            "broken folding",
+        ];
+        WORDS[self as usize - 1]
+    }
+
+    fn unless(number: u32) -> Result<(), Refusal> {
+        match number {
+            0 => Ok(()),
+            _ => Err(Refusal::ALL[number as usize - 1]),
+        }
+    }
+}
+
+impl fmt::Display for Refusal {
+    fn fmt(&self, f: &mut fmt::Formatter<'_>) -> fmt::Result {
+        write!(f, "refusal {}: {}", self.number(), self.word())
+    }
+}
+
+impl std::error::Error for Refusal {}
+
+/// The number of components of a stack file. Refusals 1 to 6.
+pub fn check(file: &[u8], kind: Kind) -> Result<usize, Refusal> {
+    counted(raw::check(file, nested(kind)))
+}
+
+/// The components of a stack file, up to 256. Refusals 1 to 6.
+pub fn read(file: &[u8]) -> Result<Vec<Component>, Refusal> {
+    let n = check(file, Kind::Apart)?;
+    let (mut heights, mut widths, mut gaps) = (vec![0; n], vec![0; n], vec![0; n]);
+    counted(raw::read(file, &mut heights, &mut widths, &mut gaps))?;
+    let component = |i: usize| Component {
+        height: Rows(heights[i].into()),
+        width: Slices(widths[i].into()),
+        gap: Rows(gaps[i].into()),
+    };
+    Ok((0..n).map(component).collect())
+}
+
+/// The six bytes of the component with that number, from 1. None for any other number and for a refused file.
+pub fn lookup(file: &[u8], number: usize) -> Option<&[u8]> {
+    let part = raw::lookup(file, number);
+    (part.length > 0).then(|| &file[part.start..part.start + part.length])
+}
+
+/// The stack file of these components. Refusals 4 to 6.
+pub fn write(stack: &[Component]) -> Result<Vec<u8>, Refusal> {
+    let list = |of: fn(&Component) -> u32| stack.iter().map(|c| narrow(of(c))).collect::<Vec<u16>>();
+    let (heights, widths, gaps) = (list(|c| c.height.0), list(|c| c.width.0), list(|c| c.gap.0));
+    let mut file = vec![0; 7 + 6 * stack.len()];
+    counted(raw::write(&heights, &widths, &gaps, &mut file))?;
+    Ok(file)
+}
+
+/// The outline of a folding. Placements past the stack's last component are not read. Refusals 1 to 6, 8, 10.
+pub fn measure(file: &[u8], kind: Kind, placements: &[Placement]) -> Result<Outline, Refusal> {
+    outlined(raw::measure(file, nested(kind), &flat(placements)))
+}
+
+/// The better folding's placements: the narrower, then the lower, then the first. None where measuring refuses either.
+pub fn choose<'a>(file: &[u8], kind: Kind, first: &'a [Placement], second: &'a [Placement]) -> Option<&'a [Placement]> {
+    let n = check(file, kind).ok()?;
+    match raw::choose(file, nested(kind), &flat(first), &flat(second)) {
+        1 => Some(&first[..n]),
+        2 => Some(&second[..n]),
+        _ => None,
+    }
+}
+
+/// The narrowest folding that is at most `limit` high, and of those the lowest. Refusals 1 to 7, 9.
+pub fn fold_to_height(file: &[u8], kind: Kind, limit: Rows) -> Result<Folding, Refusal> {
+    fold(file, kind, |placements, work| raw::to_height(file, nested(kind), limit.0, placements, work))
+}
+
+/// The lowest folding that is at most `limit` wide, and of those the narrowest. Refusals 1 to 7, 9.
+pub fn fold_to_width(file: &[u8], kind: Kind, limit: Slices) -> Result<Folding, Refusal> {
+    fold(file, kind, |placements, work| raw::to_width(file, nested(kind), limit.0, placements, work))
+}
+
+/// The unbeaten outlines: widths rise, heights fall. Refusals 1 to 6.
+pub fn table(file: &[u8], kind: Kind) -> Result<Vec<Outline>, Refusal> {
+    check(file, kind)?;
+    let mut work = vec![0; raw::WORK];
+    let mut pairs = vec![0; 2 * 1024];
+    loop {
+        match counted(raw::table(file, nested(kind), &mut pairs, &mut work)) {
+            Ok(count) => return Ok(pairs.chunks_exact(2).take(count).map(|p| outline(p[0], p[1])).collect()),
+            // The work buffer is long enough, so the table has more pairs. Widths rise strictly, so this ends.
+            Err(Refusal::ShortBuffer) => pairs.resize(2 * pairs.len(), 0),
+            Err(refusal) => return Err(refusal),
+        }
+    }
+}
+
+fn fold(
+    file: &[u8], kind: Kind, call: impl FnOnce(&mut [u32], &mut [u32]) -> raw::Outline,
+) -> Result<Folding, Refusal> {
+    let n = check(file, kind)?;
+    let (mut placements, mut work) = (vec![0; 3 * n], vec![0; raw::WORK]);
+    let outline = outlined(call(&mut placements, &mut work))?;
+    Ok(Folding { placements: placements.chunks_exact(3).map(placement).collect(), outline })
+}
+
+fn nested(kind: Kind) -> bool {
+    kind == Kind::Nested
+}
+
+fn counted(answer: raw::Count) -> Result<usize, Refusal> {
+    Refusal::unless(answer.refusal)?;
+    Ok(answer.count)
+}
+
+fn outlined(answer: raw::Outline) -> Result<Outline, Refusal> {
+    Refusal::unless(answer.refusal)?;
+    Ok(outline(answer.width, answer.height))
+}
+
+fn outline(width: u32, height: u32) -> Outline {
+    Outline { width: Slices(width), height: Rows(height) }
+}
+
+fn placement(numbers: &[u32]) -> Placement {
+    let side = if numbers[1] == 0 { Side::Left } else { Side::Right };
+    Placement { group: numbers[0], side, start: Rows(numbers[2]) }
+}
+
+fn flat(placements: &[Placement]) -> Vec<u32> {
+    placements.iter().flat_map(|p| [p.group, p.side as u32, p.start.0]).collect()
+}
+
+/// What does not fit 16 bits is out of every range, and so is the greatest 16-bit number: the refusal is the same.
+fn narrow(number: u32) -> u16 {
+    u16::try_from(number).unwrap_or(u16::MAX)
+}

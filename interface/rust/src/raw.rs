@@ -1,0 +1,162 @@
+//! The calls as the library exports them: numbers and lent buffers. The header stack_folds.h says what each does.
+
+/// A refusal's number, or 0 and a count.
+#[repr(C)]
+#[derive(Clone, Copy, Debug, PartialEq, Eq)]
+pub struct Count {
+    pub refusal: u32,
+    pub count: usize,
+}
+
+/// A refusal's number with width and height 0, or 0 and an outline.
+#[repr(C)]
+#[derive(Clone, Copy, Debug, PartialEq, Eq)]
+pub struct Outline {
+    pub refusal: u32,
+    pub width: u32,
+    pub height: u32,
+}
+
+/// A part of a lent buffer; the empty part is 0, 0.
+#[repr(C)]
+#[derive(Clone, Copy, Debug, PartialEq, Eq)]
+pub struct Part {
+    pub start: usize,
+    pub length: usize,
+}
+
+/// The least length of a work buffer.
+pub const WORK: usize = 8192;
+
+// Pointer and length are two parameters here, as in C. A slice as one parameter would be wrong: Rust keeps its two words
+// together, on the stack where a single register is left, and the library takes them apart. So it is for the last slice
+// of folds_choose and of folds_table.
+mod c {
+    use super::{Count, Outline, Part};
+    extern "C" {
+        pub fn folds_check(file: *const u8, file_len: usize, nested: bool) -> Count;
+        pub fn folds_read(
+            file: *const u8, file_len: usize, heights: *mut u16, heights_len: usize, widths: *mut u16,
+            widths_len: usize, gaps: *mut u16, gaps_len: usize,
+        ) -> Count;
+        pub fn folds_lookup(file: *const u8, file_len: usize, number: usize) -> Part;
+        pub fn folds_write(
+            heights: *const u16, heights_len: usize, widths: *const u16, widths_len: usize, gaps: *const u16,
+            gaps_len: usize, file: *mut u8, file_len: usize,
+        ) -> Count;
+        pub fn folds_measure(
+            file: *const u8, file_len: usize, nested: bool, placements: *const u32, placements_len: usize,
+        ) -> Outline;
+        pub fn folds_choose(
+            file: *const u8, file_len: usize, nested: bool, first: *const u32, first_len: usize, second: *const u32,
+            second_len: usize,
+        ) -> u32;
+        pub fn folds_to_height(
+            file: *const u8, file_len: usize, nested: bool, limit: u32, placements: *mut u32, placements_len: usize,
+            work: *mut u32, work_len: usize,
+        ) -> Outline;
+        pub fn folds_to_width(
+            file: *const u8, file_len: usize, nested: bool, limit: u32, placements: *mut u32, placements_len: usize,
+            work: *mut u32, work_len: usize,
+        ) -> Outline;
+        pub fn folds_table(
+            file: *const u8, file_len: usize, nested: bool, pairs: *mut u32, pairs_len: usize, work: *mut u32,
+            work_len: usize,
+        ) -> Count;
+    }
+}
+
+// SAFETY, for all nine: a slice has as many elements as it says, is aligned and is not null; those that the library
+// writes are lent mutably, so none overlaps another; and the library is proved to stay inside them for every input.
+
+pub fn check(file: &[u8], nested: bool) -> Count {
+    unsafe { c::folds_check(file.as_ptr(), file.len(), nested) }
+}
+
+pub fn read(file: &[u8], heights: &mut [u16], widths: &mut [u16], gaps: &mut [u16]) -> Count {
+    unsafe {
+        c::folds_read(
+            file.as_ptr(),
+            file.len(),
+            heights.as_mut_ptr(),
+            heights.len(),
+            widths.as_mut_ptr(),
+            widths.len(),
+            gaps.as_mut_ptr(),
+            gaps.len(),
+        )
+    }
+}
+
+pub fn lookup(file: &[u8], number: usize) -> Part {
+    unsafe { c::folds_lookup(file.as_ptr(), file.len(), number) }
+}
+
+pub fn write(heights: &[u16], widths: &[u16], gaps: &[u16], file: &mut [u8]) -> Count {
+    unsafe {
+        c::folds_write(
+            heights.as_ptr(),
+            heights.len(),
+            widths.as_ptr(),
+            widths.len(),
+            gaps.as_ptr(),
+            gaps.len(),
+            file.as_mut_ptr(),
+            file.len(),
+        )
+    }
+}
+
+pub fn measure(file: &[u8], nested: bool, placements: &[u32]) -> Outline {
+    unsafe { c::folds_measure(file.as_ptr(), file.len(), nested, placements.as_ptr(), placements.len()) }
+}
+
+pub fn choose(file: &[u8], nested: bool, first: &[u32], second: &[u32]) -> u32 {
+    unsafe {
+        c::folds_choose(file.as_ptr(), file.len(), nested, first.as_ptr(), first.len(), second.as_ptr(), second.len())
+    }
+}
+
+pub fn to_height(file: &[u8], nested: bool, limit: u32, placements: &mut [u32], work: &mut [u32]) -> Outline {
+    unsafe {
+        c::folds_to_height(
+            file.as_ptr(),
+            file.len(),
+            nested,
+            limit,
+            placements.as_mut_ptr(),
+            placements.len(),
+            work.as_mut_ptr(),
+            work.len(),
+        )
+    }
+}
+
+pub fn to_width(file: &[u8], nested: bool, limit: u32, placements: &mut [u32], work: &mut [u32]) -> Outline {
+    unsafe {
+        c::folds_to_width(
+            file.as_ptr(),
+            file.len(),
+            nested,
+            limit,
+            placements.as_mut_ptr(),
+            placements.len(),
+            work.as_mut_ptr(),
+            work.len(),
+        )
+    }
+}
+
+pub fn table(file: &[u8], nested: bool, pairs: &mut [u32], work: &mut [u32]) -> Count {
+    unsafe {
+        c::folds_table(
+            file.as_ptr(),
+            file.len(),
+            nested,
+            pairs.as_mut_ptr(),
+            pairs.len(),
+            work.as_mut_ptr(),
+            work.len(),
+        )
+    }
+}

@@ -1,0 +1,120 @@
+/* Foldings of a bit-sliced stack: the calls of target/staticlib/libinterface.a (build: rt staticlib interface).
+ *
+ * A stack file is lent as bytes. Its components are numbered 1 to n, from the top of the unfolded stack to its bottom.
+ * Heights, gaps and start rows count rows; widths count slices. `nested` is the kind: false for apart, true for nested.
+ *
+ * A placement is three numbers: group (from 0), side (0 left, 1 right), start row. A folding is n placements, C1's first.
+ *
+ * Every call answers every input, damaged ones too. What it asks of its caller is what C asks of every buffer: each
+ * pointer is aligned and not null, even where its length is 0; each length counts the elements that are really there;
+ * no buffer that a call writes overlaps another one of the same call.
+ *
+ * The refusals, in the order in which they are checked, save that 10 is checked before 9:
+ *
+ *    0  a result, no refusal
+ *    1  wrong file      under 7 bytes, or the letters are not STK
+ *    2  wrong version   the version is not 1
+ *    3  wrong length    the file is not 7+6n bytes; the writer's lists differ in length
+ *    4  stack size      n is 0 or over 256; over 64 where nested is true
+ *    5  bad component   a height or width outside 1 to 4,000
+ *    6  bad gap         a gap over 4,000, or the last gap not 0
+ *    7  bad limit       a limit outside 1 to 2,000,000
+ *    8  short buffer    a buffer is too short, as each call says
+ *    9  unmeetable      no legal folding keeps the limit
+ *   10  broken folding  the placements are not legal
+ *
+ * A refusal leaves every buffer lent for results as it was. A result leaves everything past it as it was.
+ */
+#ifndef STACK_FOLDS_H
+#define STACK_FOLDS_H
+
+#include <stdbool.h>
+#include <stddef.h>
+#include <stdint.h>
+
+#ifdef __cplusplus
+extern "C" {
+#endif
+
+#define FOLDS_WRONG_FILE 1
+#define FOLDS_WRONG_VERSION 2
+#define FOLDS_WRONG_LENGTH 3
+#define FOLDS_STACK_SIZE 4
+#define FOLDS_BAD_COMPONENT 5
+#define FOLDS_BAD_GAP 6
+#define FOLDS_BAD_LIMIT 7
+#define FOLDS_SHORT_BUFFER 8
+#define FOLDS_UNMEETABLE 9
+#define FOLDS_BROKEN_FOLDING 10
+
+/* The least length of a work buffer, in numbers of 32 bits. */
+#define FOLDS_WORK 8192
+
+/* count is the answer where refusal is 0, and is 0 otherwise. */
+typedef struct { uint32_t refusal; size_t count; } folds_count;
+
+/* The outline where refusal is 0; width and height are 0 otherwise. */
+typedef struct { uint32_t refusal; uint32_t width; uint32_t height; } folds_outline;
+
+/* A part of a lent buffer, in elements from the buffer's start. The empty part has start 0 and length 0. */
+typedef struct { size_t start; size_t length; } folds_part;
+
+/* Checks a stack file. count: the number of components n.
+ * Reads the file; writes nothing. Refusals 1 to 6. */
+folds_count folds_check(const uint8_t *file, size_t file_len, bool nested);
+
+/* Reads a stack file into three lists. count: n; a stack may have 256 components here.
+ * Writes the first n entries of each list: heights in rows, widths in slices, gaps in rows; all beyond stays unchanged.
+ * Refusals 1 to 6; 8 where a list has fewer than n entries. A refusal leaves all three lists unchanged. */
+folds_count folds_read(const uint8_t *file, size_t file_len, uint16_t *heights, size_t heights_len,
+                       uint16_t *widths, size_t widths_len, uint16_t *gaps, size_t gaps_len);
+
+/* The six bytes of component `number`, from 1, as a part of the file: height, width, gap, the low byte first.
+ * The empty part for a number outside 1 to n, and for a file that folds_read would refuse with 1 to 6. Writes nothing. */
+folds_part folds_lookup(const uint8_t *file, size_t file_len, size_t number);
+
+/* Writes the stack file of the components in three lists. count: the file's length, 7+6n.
+ * Writes the first 7+6n bytes of `file`; all beyond stays unchanged.
+ * Refusals: 3 where the lists differ in length, 4, 5, 6; 8 where `file` has under 7+6n bytes. A refusal leaves it as it
+ * was. */
+folds_count folds_write(const uint16_t *heights, size_t heights_len, const uint16_t *widths, size_t widths_len,
+                        const uint16_t *gaps, size_t gaps_len, uint8_t *file, size_t file_len);
+
+/* Measures a folding: its outline, the layout's width in slices and height in rows.
+ * Reads the first 3n numbers of placements, none past them; writes nothing.
+ * Refusals 1 to 6; 8 where there are fewer than n whole placements; 10. */
+folds_outline folds_measure(const uint8_t *file, size_t file_len, bool nested,
+                            const uint32_t *placements, size_t placements_len);
+
+/* Chooses the better of two foldings: 1 the first, 2 the second. The smaller width wins, then the smaller height, then
+ * the first. 0 where folds_measure would refuse either. The winner's placements are the first 3n numbers of its buffer.
+ * Writes nothing. */
+uint32_t folds_choose(const uint8_t *file, size_t file_len, bool nested,
+                      const uint32_t *first, size_t first_len, const uint32_t *second, size_t second_len);
+
+/* Folds to a height: of the legal foldings that are at most `limit` rows high, one of the narrowest outline, and of
+ * those the lowest. Which folding of that outline is written is free.
+ * Writes the first 3n numbers of placements; all beyond stays unchanged.
+ * Refusals 1 to 7; 8 for fewer than n whole placements or a work buffer under FOLDS_WORK; 9.
+ * A refusal leaves placements unchanged; the work buffer too, save that a result and refusal 9 leave its content open. */
+folds_outline folds_to_height(const uint8_t *file, size_t file_len, bool nested, uint32_t limit,
+                              uint32_t *placements, size_t placements_len, uint32_t *work, size_t work_len);
+
+/* Folds to a width: of the legal foldings that are at most `limit` slices wide, one of the lowest outline, and of those
+ * the narrowest. All else is as for folds_to_height. */
+folds_outline folds_to_width(const uint8_t *file, size_t file_len, bool nested, uint32_t limit,
+                             uint32_t *placements, size_t placements_len, uint32_t *work, size_t work_len);
+
+/* Lists the unbeaten outlines as pairs width, height: widths rise and heights fall strictly. count: the number of pairs.
+ * Writes the first 2*count numbers of pairs; all beyond stays unchanged.
+ * Refusals 1 to 6; 8 for a work buffer under FOLDS_WORK, or for more outlines than whole pairs fit.
+ * A refusal leaves pairs unchanged; the work buffer too, save that a result and 8 for too long a table leave its
+ * content open. */
+folds_count folds_table(const uint8_t *file, size_t file_len, bool nested,
+                        uint32_t *pairs, size_t pairs_len, uint32_t *work, size_t work_len);
+
+#ifdef __cplusplus
+}
+#endif
+
+#endif
