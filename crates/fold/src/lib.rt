@@ -106,14 +106,7 @@ fn write_best(
 }
 
 // The least height for which the best layout is at most so many slices wide, by halving.
-fn least_height(
-    kind: Kind,
-    most: u32,
-    h: &[u16],
-    w: &[u16],
-    g: &[u16],
-    work: &mut [u32],
-) -> u32
+fn least_height(kind: Kind, most: u32, h: &[u16], w: &[u16], g: &[u16], work: &mut [u32]) -> u32
     requires { ⌜ Plannable kind (now h) (now w) (now g) (now work) × (most ≤ 2000000) × (layoutOf kind 2000000 0 (componentsIn (now h) (now w) (now g)) .width ≤ most) ⌝ }
     ensures { λ r. ⌜ LeastFor kind (componentsIn (now (h .entry)) (now (w .entry)) (now (g .entry))) most r ⌝ }
 {

@@ -109,12 +109,12 @@ module _ (kind : Kind) (cs : List Component) (s : Stacked cs) where
             record {
               most = omega (arith, falls, w .most);
               front =
-                rw f
-                (append-assoc (take at new) (o .width .0 ∷ o .height .0 ∷ []) (pairsOf (outlinesTo kind cs (o .height .0 - 1)))
-                ∙ sym (ap (λ (os : List Outline). take at new ++ pairsOf os) next) ∙ w .front);
+                  rw f
+                  (append-assoc (take at new) (o .width .0 ∷ o .height .0 ∷ []) (pairsOf (outlinesTo kind cs (o .height .0 - 1)))
+                  ∙ sym (ap (λ (os : List Outline). take at new ++ pairsOf os) next) ∙ w .front);
               beyond =
-                put-beyond new put at (o .width .0) (o .height .0) pair-fits p
-                ∙ sym (drop-drop 2 at new) ∙ ap (λ (l : List ℕ). drop 2 l) (w .beyond) ∙ drop-drop 2 at old;
+                  put-beyond new put at (o .width .0) (o .height .0) pair-fits p
+                  ∙ sym (drop-drop 2 at new) ∙ ap (λ (l : List ℕ). drop 2 l) (w .beyond) ∙ drop-drop 2 at old;
               long = put-long new put at (o .width .0) (o .height .0) pair-fits p ∙ w .long;
               rest = omega (arith, w .rest, ap length next);
             }

@@ -26,7 +26,10 @@ abbrev pub outlineCode : Answer Outline → Extent
 outlineCode (refusal k) = record { refusal = k; width = 0; height = 0 }
 outlineCode (result o) = record { refusal = 0; width = o .width .0; height = o .height .0 }
 
--- What the numbers of an outline or a refusal say.
+-- What the numbers say.
+abbrev pub countOfCode : Count → Answer ℕ
+countOfCode c = cond (eqb (c .refusal) 0) (result (c .count)) (refusal (c .refusal))
+
 abbrev pub outlineOfCode : Extent → Answer Outline
 outlineOfCode e = cond (eqb (e .refusal) 0) (result (record { width = record { 0 = e .width }; height = record { 0 = e .height } })) (refusal (e .refusal))
 

@@ -1,7 +1,11 @@
 // The calls for C and Rust: numbers and slices only.
+use fold_table::Listed;
 use folding::Measured;
 use stack_write::Written;
-use terms::{Counted, Kind, Rows, Slices};
+use terms::Counted;
+use terms::Kind;
+use terms::Rows;
+use terms::Slices;
 ghost use Prim.Native.Nat.{_+_, _*_, _≤_};
 ghost use mathlib.Core.Path.{_≡_};
 ghost use lib.ListN.{length, take, drop};
@@ -13,7 +17,8 @@ ghost use Rattle.stack.specs.Calls.{readOf, readInto, lookupOf};
 ghost use Rattle.stack_write.specs.Call.{writtenAnswer, writeOf, lengthOf, writeInto};
 ghost use Rattle.folding.specs.Calls.{measuredAnswer, measureOf};
 ghost use Rattle.fold.specs.Calls.{ToHeight, ToWidth};
-ghost use Rattle.interface.specs.Codes.{kindOf, countCode, outlineCode, outlineOfCode, partCode, choiceCode};
+ghost use Rattle.fold_table.specs.Calls.{listedAnswer, TableOf};
+ghost use Rattle.interface.specs.Codes.{kindOf, countCode, outlineCode, outlineOfCode, countOfCode, partCode, choiceCode};
 
 // A number of components, bytes or pairs.
 #[repr(C)]
@@ -48,8 +53,14 @@ fn counted(a: Counted) -> Count
     ensures { λ r. ⌜ r ≡ countCode (countAnswer a) ⌝ }
 {
     match a {
-        Counted::Components(n) => Count { refusal: 0, count: n },
-        Counted::Refused(k) => Count { refusal: k.number(), count: 0 },
+        Counted::Components(n) => Count {
+            refusal: 0,
+            count: n,
+        },
+        Counted::Refused(k) => Count {
+            refusal: k.number(),
+            count: 0,
+        },
     }
 }
 
@@ -57,8 +68,29 @@ fn written(a: Written) -> Count
     ensures { λ r. ⌜ r ≡ countCode (writtenAnswer a) ⌝ }
 {
     match a {
-        Written::Bytes(n) => Count { refusal: 0, count: n },
-        Written::Refused(k) => Count { refusal: k.number(), count: 0 },
+        Written::Bytes(n) => Count {
+            refusal: 0,
+            count: n,
+        },
+        Written::Refused(k) => Count {
+            refusal: k.number(),
+            count: 0,
+        },
+    }
+}
+
+fn listed(a: Listed) -> Count
+    ensures { λ r. ⌜ r ≡ countCode (listedAnswer a) ⌝ }
+{
+    match a {
+        Listed::Outlines(n) => Count {
+            refusal: 0,
+            count: n,
+        },
+        Listed::Refused(k) => Count {
+            refusal: k.number(),
+            count: 0,
+        },
     }
 }
 
@@ -87,7 +119,12 @@ pub extern "C" fn folds_check(file: &[u8], nested: bool) -> Count
 }
 
 #[no_mangle]
-pub extern "C" fn folds_read(file: &[u8], heights: &mut [u16], widths: &mut [u16], gaps: &mut [u16]) -> Count
+pub extern "C" fn folds_read(
+    file: &[u8],
+    heights: &mut [u16],
+    widths: &mut [u16],
+    gaps: &mut [u16],
+) -> Count
     ensures { λ r. ⌜ r ≡ countCode (countOf (readOf Apart (now (file .entry)) (length (now (heights .entry))) (length (now (widths .entry))) (length (now (gaps .entry))))) ⌝ }
     ensures { λ _. ⌜ now (heights .exit) ≡ readInto (readOf Apart (now (file .entry)) (length (now (heights .entry))) (length (now (widths .entry))) (length (now (gaps .entry)))) (λ c. c .height .0) (now (heights .entry)) ⌝ }
     ensures { λ _. ⌜ now (widths .exit) ≡ readInto (readOf Apart (now (file .entry)) (length (now (heights .entry))) (length (now (widths .entry))) (length (now (gaps .entry)))) (λ c. c .width .0) (now (widths .entry)) ⌝ }
@@ -102,21 +139,38 @@ pub extern "C" fn folds_lookup(file: &[u8], number: usize) -> Part
     ensures { λ r. ⌜ take (r .length) (drop (r .start) (now (file .entry))) ≡ lookupOf (now (file .entry)) number ⌝ }
 {
     match stack::check(file, Kind::Apart) {
-        Counted::Refused(_) => Part { start: 0, length: 0 },
+        Counted::Refused(_) => Part {
+            start: 0,
+            length: 0,
+        },
         Counted::Components(n) => {
             if number < 1 {
-                return Part { start: 0, length: 0 };
+                return Part {
+                    start: 0,
+                    length: 0,
+                };
             }
             if n < number {
-                return Part { start: 0, length: 0 };
+                return Part {
+                    start: 0,
+                    length: 0,
+                };
             }
-            Part { start: 7 + 6 * (number - 1), length: 6 }
+            Part {
+                start: 7 + 6 * (number - 1),
+                length: 6,
+            }
         }
     }
 }
 
 #[no_mangle]
-pub extern "C" fn folds_write(heights: &[u16], widths: &[u16], gaps: &[u16], file: &mut [u8]) -> Count
+pub extern "C" fn folds_write(
+    heights: &[u16],
+    widths: &[u16],
+    gaps: &[u16],
+    file: &mut [u8],
+) -> Count
     ensures { λ r. ⌜ r ≡ countCode (lengthOf (writeOf (now (heights .entry)) (now (widths .entry)) (now (gaps .entry)) (length (now (file .entry))))) ⌝ }
     ensures { λ _. ⌜ now (file .exit) ≡ writeInto (writeOf (now (heights .entry)) (now (widths .entry)) (now (gaps .entry)) (length (now (file .entry)))) (now (file .entry)) ⌝ }
 {
@@ -152,7 +206,10 @@ pub extern "C" fn folds_choose(file: &[u8], nested: bool, first: &[u32], second:
     ensures { λ r. ⌜ r ≡ choiceCode (measureOf (kindOf nested) (now (file .entry)) (now (first .entry))) (measureOf (kindOf nested) (now (file .entry)) (now (second .entry))) ⌝ }
 {
     let kind = kind_of(nested);
-    choice(folding::measure(file, kind, first), folding::measure(file, kind, second))
+    choice(
+        folding::measure(file, kind, first),
+        folding::measure(file, kind, second),
+    )
 }
 
 #[no_mangle]
@@ -181,4 +238,17 @@ pub extern "C" fn folds_to_width(
 {
     let kind = kind_of(nested);
     measured(fold::fold_to_width(file, kind, Slices(limit), placements, work))
+}
+
+#[no_mangle]
+pub extern "C" fn folds_table(
+    file: &[u8],
+    nested: bool,
+    pairs: &mut [u32],
+    work: &mut [u32],
+) -> Count
+    ensures { λ r. ⌜ TableOf (kindOf nested) (now (file .entry)) (now (pairs .entry)) (now (work .entry)) (countOfCode r) (now (pairs .exit)) (now (work .exit)) ⌝ }
+{
+    let kind = kind_of(nested);
+    listed(fold_table::outline_table(file, kind, pairs, work))
 }

@@ -44,13 +44,13 @@ planned-drop : (kind : Kind) (limit g0 : ℕ) (cs : List Component) (widths heig
     → Planned kind limit (gapAfter (take k cs)) (drop k cs) (drop k widths) (drop k heights) (drop k ends)
 planned-drop kind limit g0 cs widths heights ends k p h s = record {
   at = λ j l.
-    let q : PlannedAt (getD (layouts kind limit g0 cs) (k + j) unmet) (getD widths (k + j) 0) (getD heights (k + j) 0) (getD ends (k + j) 0) = s .at (k + j) (omega (arith, length-drop k cs)) in
-    rw (← layouts-drop kind limit g0 cs k p h, getD-drop k (layouts kind limit g0 cs) j unmet, getD-drop k widths j 0, getD-drop k heights j 0, getD-drop k ends j 0) q;
+      let q : PlannedAt (getD (layouts kind limit g0 cs) (k + j) unmet) (getD widths (k + j) 0) (getD heights (k + j) 0) (getD ends (k + j) 0) = s .at (k + j) (omega (arith, length-drop k cs)) in
+      rw (← layouts-drop kind limit g0 cs k p h, getD-drop k (layouts kind limit g0 cs) j unmet, getD-drop k widths j 0, getD-drop k heights j 0, getD-drop k ends j 0) q;
 }
 
 -- The first group of a layout that the lists hold.
 module _ (kind : Kind) (limit g0 : ℕ) (cs : List Component) (widths heights ends : List ℕ) (some : 0 < length cs) (few : length cs ≤ 256) (s : AllSized cs)
-  (m : Met kind limit g0 cs widths heights ends) where
+    (m : Met kind limit g0 cs widths heights ends) where
   is-chosen : Chosen kind limit g0 cs (layoutOf kind limit g0 cs)
   is-chosen = chosen kind limit g0 cs some (m .met)
 
@@ -118,4 +118,3 @@ placements-behind ps b n h =
     let t : take k l ≡ ps = take-tabulate (placementAt (flatOf ps ++ b)) n k h ∙ placements-flat ps b in
     let d : drop k l ≡ placementsOf b (n - k) = tabulate-rest (placementAt (flatOf ps ++ b)) n k h ∙ tabulate-same _ _ (n - k) (λ i q. placement-behind (flatOf ps) b k i (flat-length ps)) in
     sym (take-append-drop k l) ∙ rw (t, d) refl
-

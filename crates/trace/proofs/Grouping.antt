@@ -34,15 +34,16 @@ module _ (kind : Kind) (g0 cap : ℕ) (hs ws gs work : List ℕ) (a : GroupAsks 
 
   module _ (e : kind ≡ Nested) (filled : List ℕ) (f : Filled hs ws filled cap) where
     pub point-asks : length filled ≡ length work → HeightAsks g0 hs ws gs filled × Filled hs ws filled cap
-    point-asks n =
-        (record {
-          table = record { columns = columns-of (a .lists); few = few-nested e; room = omega (arith, a .work-room) };
-          some = a .some;
-          gaps-long = a .lists .same-gaps;
-          gaps-low = a .lists .near;
-          first-low = a .before;
-        },
-        f)
+    point-asks n = (
+      record {
+        table = record { columns = columns-of (a .lists); few = few-nested e; room = omega (arith, a .work-room) };
+        some = a .some;
+        gaps-long = a .lists .same-gaps;
+        gaps-low = a .lists .near;
+        first-low = a .before;
+      },
+      f,
+    )
 
     pub nested-found : (p : ℕ) → FoldPoint Nested g0 (componentsIn hs ws gs) cap p → FoldFound kind g0 cap hs ws gs filled p
     nested-found p q = record { point = rw e q; table = λ h. (few-nested e, f) }
@@ -64,6 +65,7 @@ module _ (kind : Kind) (g0 cap : ℕ) (hs ws gs work : List ℕ) (a : GroupAsks 
 pub first-group : (kind : Kind) (g0 k : ℕ) (hs ws gs out work : List ℕ) → FirstAsks kind g0 k hs ws gs out work
     → GroupAsks kind g0 (take k hs) (take k ws) (take k gs) work × (3 * length (take k hs) ≤ length out)
 first-group kind g0 k hs ws gs out work a =
-    let n = length-take-le k hs (a .within) in
-    (record { lists = lists-take (a .lists) k (a .within); some = omega (arith, n, a .some); before = a .before; work-room = a .work-room },
-     omega (arith, n, a .within, a .room))
+    let n = length-take-le k hs (a .within) in (
+      record { lists = lists-take (a .lists) k (a .within); some = omega (arith, n, a .some); before = a .before; work-room = a .work-room },
+      omega (arith, n, a .within, a .room),
+    )

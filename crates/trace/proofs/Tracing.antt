@@ -51,15 +51,16 @@ module _ (kind : Kind) (group g0 : ℕ) (hs ws gs widths ends out work : List �
     k-within = omega (arith, first-asks .2)
 
     pub cap-asks : (0 < length widths) × (k < length widths) × (getD widths k 0 ≤ getD widths 0 0)
-    cap-asks =
-        (omega (arith, a .widths-long), omega (arith, a .widths-long, k-within),
-         no-wider kind (a .limit) g0 (componentsIn hs ws gs) widths (a .heights) ends some-in few (sized-lists (a .lists)) (a .plan) k e)
+    cap-asks = (
+      omega (arith, a .widths-long),
+      omega (arith, a .widths-long, k-within),
+      no-wider kind (a .limit) g0 (componentsIn hs ws gs) widths (a .heights) ends some-in few (sized-lists (a .lists)) (a .plan) k e,
+    )
 
     pub put-asks : FirstAsks kind g0 k hs ws gs out work
     put-asks = record { lists = a .lists; some = k-some; within = k-within; before = a .before; room = a .room; work-room = a .work-room }
 
     module _ (cap : ℕ) (d : cap ≡ getD widths 0 0 - getD widths k 0) where
-
       -- The rest, behind the gap of the group's last component.
       module _ (gap-before : ℕ) (b : gap-before ≡ getD gs (k - 1) 0) where
         met-rest : (limit : ℕ) (heights : List ℕ) → Met kind limit g0 (componentsIn hs ws gs) widths heights ends

@@ -107,18 +107,7 @@ pub fn trace(
 {
     if 0 < h.len() {
         let k = first_end(h.len(), ends);
-        put_first(
-            kind,
-            group,
-            g0,
-            cap_of(widths, k),
-            k,
-            h,
-            w,
-            g,
-            out,
-            work,
-        );
+        put_first(kind, group, g0, cap_of(widths, k), k, h, w, g, out, work);
         let from = 3 * k;
         trace(
             kind,

@@ -1,13 +1,8 @@
-use native.Mathlib.Omega.{arith}
-use mathlib.Core.Path.{_≡_, refl, sym, _∙_}
-use denote.Ref.{now}
+use mathlib.Core.Path.{sym, _∙_}
 use borrow.Author.Needs.{needs}
 use borrow.Author.Needs.{needs}
 use Rattle.interface.proofs.choice.Statement.{statement}
 use Rattle.interface.proofs.choice.Tie as tie
-use Rattle.interface.proofs.choice.Reads as reads
-use Rattle.interface.proofs.choice.Lts as lts
-use Rattle.folding.proofs.second_wins.Reads as second-wins-reads
 
 -- src/lib.rt:136:33
 enum-told : tie.Need-enum-told

@@ -1,15 +1,7 @@
-use native.Mathlib.Omega.{arith}
-use mathlib.Core.Path.{_≡_, refl, sym, _∙_}
-use denote.Ref.{now}
 use borrow.Author.Needs.{needs}
 use borrow.Author.Needs.{needs}
 use Rattle.interface.proofs.folds_check.Statement.{statement}
 use Rattle.interface.proofs.folds_check.Tie as tie
-use Rattle.interface.proofs.folds_check.Reads as reads
-use Rattle.interface.proofs.folds_check.Lts as lts
-use Rattle.interface.proofs.counted.Reads as counted-reads
-use Rattle.interface.proofs.kind_of.Reads as kind-of-reads
-use Rattle.stack.proofs.check.Reads as check-reads
 
 -- src/lib.rt:85:32
 kind-of-requires : tie.Need-kind-of-requires

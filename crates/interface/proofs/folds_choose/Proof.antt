@@ -1,15 +1,7 @@
-use native.Mathlib.Omega.{arith}
-use mathlib.Core.Path.{_≡_, refl, sym, _∙_}
-use denote.Ref.{now}
 use borrow.Author.Needs.{needs}
 use borrow.Author.Needs.{needs}
 use Rattle.interface.proofs.folds_choose.Statement.{statement}
 use Rattle.interface.proofs.folds_choose.Tie as tie
-use Rattle.interface.proofs.folds_choose.Reads as reads
-use Rattle.interface.proofs.folds_choose.Lts as lts
-use Rattle.folding.proofs.measure.Reads as measure-reads
-use Rattle.interface.proofs.choice.Reads as choice-reads
-use Rattle.interface.proofs.kind_of.Reads as kind-of-reads
 
 -- src/lib.rt:153:9
 kind-of-requires : tie.Need-kind-of-requires

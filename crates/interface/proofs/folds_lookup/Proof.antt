@@ -3,15 +3,11 @@ use Rattle.stack.proofs.Looking.{size}
 use mathlib.Core.Path.{ap}
 use Rattle.terms.specs.Answer.{countAnswer}
 use native.Mathlib.Omega.{arith}
-use mathlib.Core.Path.{_≡_, refl, sym, _∙_}
-use denote.Ref.{now}
+use mathlib.Core.Path.{sym, _∙_}
 use borrow.Author.Needs.{needs}
 use borrow.Author.Needs.{needs}
 use Rattle.interface.proofs.folds_lookup.Statement.{statement}
 use Rattle.interface.proofs.folds_lookup.Tie as tie
-use Rattle.interface.proofs.folds_lookup.Reads as reads
-use Rattle.interface.proofs.folds_lookup.Lts as lts
-use Rattle.stack.proofs.check.Reads as check-reads
 
 -- src/lib.rt:103:11
 check-requires : tie.Need-check-requires

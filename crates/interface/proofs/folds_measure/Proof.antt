@@ -1,15 +1,7 @@
-use native.Mathlib.Omega.{arith}
-use mathlib.Core.Path.{_≡_, refl, sym, _∙_}
-use denote.Ref.{now}
 use borrow.Author.Needs.{needs}
 use borrow.Author.Needs.{needs}
 use Rattle.interface.proofs.folds_measure.Statement.{statement}
 use Rattle.interface.proofs.folds_measure.Tie as tie
-use Rattle.interface.proofs.folds_measure.Reads as reads
-use Rattle.interface.proofs.folds_measure.Lts as lts
-use Rattle.folding.proofs.measure.Reads as measure-reads
-use Rattle.interface.proofs.kind_of.Reads as kind-of-reads
-use Rattle.interface.proofs.measured.Reads as measured-reads
 
 -- src/lib.rt:129:37
 kind-of-requires : tie.Need-kind-of-requires

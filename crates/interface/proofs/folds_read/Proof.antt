@@ -1,14 +1,7 @@
-use native.Mathlib.Omega.{arith}
-use mathlib.Core.Path.{_≡_, refl, sym, _∙_}
-use denote.Ref.{now}
 use borrow.Author.Needs.{needs}
 use borrow.Author.Needs.{needs}
 use Rattle.interface.proofs.folds_read.Statement.{statement}
 use Rattle.interface.proofs.folds_read.Tie as tie
-use Rattle.interface.proofs.folds_read.Reads as reads
-use Rattle.interface.proofs.folds_read.Lts as lts
-use Rattle.interface.proofs.counted.Reads as counted-reads
-use Rattle.stack.proofs.read.Reads as read-reads
 
 -- src/lib.rt:95:13
 read-requires : tie.Need-read-requires

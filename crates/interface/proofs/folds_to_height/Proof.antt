@@ -1,16 +1,8 @@
 use Rattle.interface.proofs.Codes.{outline-said}
-use native.Mathlib.Omega.{arith}
-use mathlib.Core.Path.{_≡_, refl, sym, _∙_}
-use denote.Ref.{now}
 use borrow.Author.Needs.{needs}
 use borrow.Author.Needs.{needs}
 use Rattle.interface.proofs.folds_to_height.Statement.{statement}
 use Rattle.interface.proofs.folds_to_height.Tie as tie
-use Rattle.interface.proofs.folds_to_height.Reads as reads
-use Rattle.interface.proofs.folds_to_height.Lts as lts
-use Rattle.fold.proofs.fold_to_height.Reads as fold-to-height-reads
-use Rattle.interface.proofs.kind_of.Reads as kind-of-reads
-use Rattle.interface.proofs.measured.Reads as measured-reads
 
 -- src/lib.rt:168:9
 kind-of-requires : tie.Need-kind-of-requires

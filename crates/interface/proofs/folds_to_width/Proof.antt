@@ -1,16 +1,8 @@
 use Rattle.interface.proofs.Codes.{outline-said}
-use native.Mathlib.Omega.{arith}
-use mathlib.Core.Path.{_≡_, refl, sym, _∙_}
-use denote.Ref.{now}
 use borrow.Author.Needs.{needs}
 use borrow.Author.Needs.{needs}
 use Rattle.interface.proofs.folds_to_width.Statement.{statement}
 use Rattle.interface.proofs.folds_to_width.Tie as tie
-use Rattle.interface.proofs.folds_to_width.Reads as reads
-use Rattle.interface.proofs.folds_to_width.Lts as lts
-use Rattle.fold.proofs.fold_to_width.Reads as fold-to-width-reads
-use Rattle.interface.proofs.kind_of.Reads as kind-of-reads
-use Rattle.interface.proofs.measured.Reads as measured-reads
 
 -- src/lib.rt:182:9
 kind-of-requires : tie.Need-kind-of-requires

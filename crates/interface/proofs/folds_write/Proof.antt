@@ -1,14 +1,7 @@
-use native.Mathlib.Omega.{arith}
-use mathlib.Core.Path.{_≡_, refl, sym, _∙_}
-use denote.Ref.{now}
 use borrow.Author.Needs.{needs}
 use borrow.Author.Needs.{needs}
 use Rattle.interface.proofs.folds_write.Statement.{statement}
 use Rattle.interface.proofs.folds_write.Tie as tie
-use Rattle.interface.proofs.folds_write.Reads as reads
-use Rattle.interface.proofs.folds_write.Lts as lts
-use Rattle.interface.proofs.written.Reads as written-reads
-use Rattle.stack_write.proofs.write.Reads as write-reads
 
 -- src/lib.rt:122:13
 write-requires : tie.Need-write-requires

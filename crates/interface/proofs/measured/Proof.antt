@@ -1,13 +1,7 @@
-use native.Mathlib.Omega.{arith}
-use mathlib.Core.Path.{_≡_, refl, sym, _∙_}
-use denote.Ref.{now}
 use borrow.Author.Needs.{needs}
 use borrow.Author.Needs.{needs}
 use Rattle.interface.proofs.measured.Statement.{statement}
 use Rattle.interface.proofs.measured.Tie as tie
-use Rattle.interface.proofs.measured.Reads as reads
-use Rattle.interface.proofs.measured.Lts as lts
-use Rattle.terms.proofs.Refusal.number.Reads as number-reads
 
 -- src/lib.rt:68:28
 enum-known-a : tie.Need-enum-known-a
