@@ -48,15 +48,15 @@ fn write_table(kind: Kind, h: &[u16], w: &[u16], g: &[u16], out: &mut [u32], wor
     requires { ⌜ Plannable kind (now h) (now w) (now g) (now work) × (2 * length (allOutlines kind (componentsIn (now h) (now w) (now g))) ≤ length (now out)) ⌝ }
     ensures { λ _. ⌜ now (out .exit) ≡ pairsOf (allOutlines kind (componentsIn (now (h .entry)) (now (w .entry)) (now (g .entry)))) ++ drop (2 * length (allOutlines kind (componentsIn (now (h .entry)) (now (w .entry)) (now (g .entry))))) (now (out .entry)) ⌝ }
 {
-    let mut limit = 2000000;
+    let mut rows = 2000000;
     let mut at = 0;
-    while 0 < limit {
-        let o = fold::outline_at(kind, limit, h, w, g, work);
+    while 0 < rows {
+        let o = fold::outline_at(kind, rows, h, w, g, work);
         if 4000000 <= o.width.0 {
             return;
         }
         put_pair(out, at, o);
-        limit = o.height.0 - 1;
+        rows = o.height.0 - 1;
         at += 2;
     }
 }

@@ -19,7 +19,7 @@ use std::hint::black_box;
 
 /// Stacks for each shape and length; fewer where those before took longer than so many seconds.
 const STACKS: usize = 7;
-const CELL: f64 = 2.5;
+const CELL: f64 = 12.0;
 
 const CALLS: [&str; 3] = ["fold to height", "fold to width", "table"];
 
@@ -107,7 +107,7 @@ impl Library<'_> {
     fn table(&mut self) -> Vec<Outline> {
         let answer = raw::table(self.file, self.nested, &mut self.pairs, &mut self.work);
         assert_eq!(answer.refusal, 0, "the table is refused");
-        self.pairs.chunks_exact(2).take(answer.count as usize).map(|p| outline(p[0], p[1])).collect()
+        self.pairs.chunks_exact(2).take(answer.count).map(|p| outline(p[0], p[1])).collect()
     }
 }
 

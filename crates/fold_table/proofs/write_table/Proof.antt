@@ -9,10 +9,10 @@ use Rattle.fold_table.proofs.write_table.Statement.{statement}
 use Rattle.fold_table.proofs.write_table.Tie as tie
 
 abbrev Inv-loop : tie.InvT-loop
-Inv-loop kind h w g out₀ work₀ limit₀ at₀ out work limit at = WrittenTo kind (componentsIn h w g) out₀ out limit at × (length work ≡ length work₀)
+Inv-loop kind h w g out₀ work₀ rows₀ at₀ out work rows at = WrittenTo kind (componentsIn h w g) out₀ out rows at × (length work ≡ length work₀)
 
 abbrev μ-loop : tie.MeasureT-loop
-μ-loop kind h w g out₀ work₀ limit₀ at₀ out work limit at = limit
+μ-loop kind h w g out₀ work₀ rows₀ at₀ out work rows at = rows
 
 -- src/lib.rt:53:5
 loop-holds : tie.Need-loop-holds Inv-loop μ-loop
@@ -32,27 +32,27 @@ same-length-2 c = c .before .before .before .before .outline-at .kept .1 .1 .1 .
 
 -- src/lib.rt:56:13
 returns : tie.Need-returns Inv-loop μ-loop
-returns c = write-all _ _ (stacked _ _ _ _ (c .before .before .before .before .before .before .before .before .before .before .before .before .before .pre .0 .lists) (c .before .before .before .before .before .before .before .before .before .before .before .before .before .pre .0 .some)) _ _ _ _ (no-more _ _ (stacked _ _ _ _ (c .before .before .before .before .before .before .before .before .before .before .before .before .before .pre .0 .lists) (c .before .before .before .before .before .before .before .before .before .before .before .before .before .pre .0 .some)) (c .before .before .before .before .before .before .before .loop .limit) (c .before .before .before .before .outline-at .result) (c .before .before .before .before .outline-at .ensures) (c .if1 .taken)) (c .before .before .before .before .before .before .before .loop .inv .0)
+returns c = write-all _ _ (stacked _ _ _ _ (c .before .before .before .before .before .before .before .before .before .before .before .before .before .pre .0 .lists) (c .before .before .before .before .before .before .before .before .before .before .before .before .before .pre .0 .some)) _ _ _ _ (no-more _ _ (stacked _ _ _ _ (c .before .before .before .before .before .before .before .before .before .before .before .before .before .pre .0 .lists) (c .before .before .before .before .before .before .before .before .before .before .before .before .before .pre .0 .some)) (c .before .before .before .before .before .before .before .loop .rows) (c .before .before .before .before .outline-at .result) (c .before .before .before .before .outline-at .ensures) (c .if1 .taken)) (c .before .before .before .before .before .before .before .loop .inv .0)
 
 -- src/lib.rt:58:9
 put-pair-requires : tie.Need-put-pair-requires Inv-loop μ-loop
-put-pair-requires c κs = pair-fits _ _ (stacked _ _ _ _ (c .before .before .before .before .before .before .before .before .before .before .before .before .before .before .pre .0 .lists) (c .before .before .before .before .before .before .before .before .before .before .before .before .before .before .pre .0 .some)) (c .before .before .before .before .before .before .before .before .loop .limit) (c .before .before .before .before .before .outline-at .result) (c .before .before .before .before .before .outline-at .ensures) (c .before .if1 .left) _ _ _ (c .before .before .before .before .before .before .before .before .loop .inv .0) (c .before .before .before .before .before .before .before .before .before .before .before .before .before .before .pre .1)
+put-pair-requires c κs = pair-fits _ _ (stacked _ _ _ _ (c .before .before .before .before .before .before .before .before .before .before .before .before .before .before .pre .0 .lists) (c .before .before .before .before .before .before .before .before .before .before .before .before .before .before .pre .0 .some)) (c .before .before .before .before .before .before .before .before .loop .rows) (c .before .before .before .before .before .outline-at .result) (c .before .before .before .before .before .outline-at .ensures) (c .before .if1 .left) _ _ _ (c .before .before .before .before .before .before .before .before .loop .inv .0) (c .before .before .before .before .before .before .before .before .before .before .before .before .before .before .pre .1)
 
 -- src/lib.rt:59:17
-sub-limit : tie.Need-sub-limit Inv-loop μ-loop
-sub-limit c = omega (arith, high _ _ (stacked _ _ _ _ (c .before .before .before .before .before .before .before .before .before .before .before .before .before .before .before .before .before .before .pre .0 .lists) (c .before .before .before .before .before .before .before .before .before .before .before .before .before .before .before .before .before .before .pre .0 .some)) (c .before .before .before .before .before .before .before .before .before .before .before .before .loop .limit) (c .before .before .before .before .before .before .before .before .before .outline-at .result) (c .before .before .before .before .before .before .before .before .before .outline-at .ensures) (c .before .before .before .before .before .if1 .left))
+sub-rows : tie.Need-sub-rows Inv-loop μ-loop
+sub-rows c = omega (arith, high _ _ (stacked _ _ _ _ (c .before .before .before .before .before .before .before .before .before .before .before .before .before .before .before .before .before .before .pre .0 .lists) (c .before .before .before .before .before .before .before .before .before .before .before .before .before .before .before .before .before .before .pre .0 .some)) (c .before .before .before .before .before .before .before .before .before .before .before .before .loop .rows) (c .before .before .before .before .before .before .before .before .before .outline-at .result) (c .before .before .before .before .before .before .before .before .before .outline-at .ensures) (c .before .before .before .before .before .if1 .left))
 
 -- src/lib.rt:60:9
 add-at : tie.Need-add-at Inv-loop μ-loop
-add-at c = omega (arith, pair-fits _ _ (stacked _ _ _ _ (c .before .before .before .before .before .before .before .before .before .before .before .before .before .before .before .before .before .before .pre .0 .lists) (c .before .before .before .before .before .before .before .before .before .before .before .before .before .before .before .before .before .before .pre .0 .some)) (c .before .before .before .before .before .before .before .before .before .before .before .before .loop .limit) (c .before .before .before .before .before .before .before .before .before .outline-at .result) (c .before .before .before .before .before .before .before .before .before .outline-at .ensures) (c .before .before .before .before .before .if1 .left) _ _ _ (c .before .before .before .before .before .before .before .before .before .before .before .before .loop .inv .0) (c .before .before .before .before .before .before .before .before .before .before .before .before .before .before .before .before .before .before .pre .1))
+add-at c = omega (arith, pair-fits _ _ (stacked _ _ _ _ (c .before .before .before .before .before .before .before .before .before .before .before .before .before .before .before .before .before .before .pre .0 .lists) (c .before .before .before .before .before .before .before .before .before .before .before .before .before .before .before .before .before .before .pre .0 .some)) (c .before .before .before .before .before .before .before .before .before .before .before .before .loop .rows) (c .before .before .before .before .before .before .before .before .before .outline-at .result) (c .before .before .before .before .before .before .before .before .before .outline-at .ensures) (c .before .before .before .before .before .if1 .left) _ _ _ (c .before .before .before .before .before .before .before .before .before .before .before .before .loop .inv .0) (c .before .before .before .before .before .before .before .before .before .before .before .before .before .before .before .before .before .before .pre .1))
 
 -- src/lib.rt:53:5
 loop-less : tie.Need-loop-less Inv-loop μ-loop
-loop-less c = omega (arith, high _ _ (stacked _ _ _ _ (c .before .before .before .before .before .before .before .before .before .before .before .before .before .before .before .before .before .before .pre .0 .lists) (c .before .before .before .before .before .before .before .before .before .before .before .before .before .before .before .before .before .before .pre .0 .some)) (c .before .before .before .before .before .before .before .before .before .before .before .before .loop .limit) (c .before .before .before .before .before .before .before .before .before .outline-at .result) (c .before .before .before .before .before .before .before .before .before .outline-at .ensures) (c .before .before .before .before .before .if1 .left), falls _ _ (stacked _ _ _ _ (c .before .before .before .before .before .before .before .before .before .before .before .before .before .before .before .before .before .before .pre .0 .lists) (c .before .before .before .before .before .before .before .before .before .before .before .before .before .before .before .before .before .before .pre .0 .some)) (c .before .before .before .before .before .before .before .before .before .before .before .before .loop .limit) (c .before .before .before .before .before .before .before .before .before .outline-at .result) (c .before .before .before .before .before .before .before .before .before .outline-at .ensures) (c .before .before .before .before .before .if1 .left))
+loop-less c = omega (arith, high _ _ (stacked _ _ _ _ (c .before .before .before .before .before .before .before .before .before .before .before .before .before .before .before .before .before .before .pre .0 .lists) (c .before .before .before .before .before .before .before .before .before .before .before .before .before .before .before .before .before .before .pre .0 .some)) (c .before .before .before .before .before .before .before .before .before .before .before .before .loop .rows) (c .before .before .before .before .before .before .before .before .before .outline-at .result) (c .before .before .before .before .before .before .before .before .before .outline-at .ensures) (c .before .before .before .before .before .if1 .left), falls _ _ (stacked _ _ _ _ (c .before .before .before .before .before .before .before .before .before .before .before .before .before .before .before .before .before .before .pre .0 .lists) (c .before .before .before .before .before .before .before .before .before .before .before .before .before .before .before .before .before .before .pre .0 .some)) (c .before .before .before .before .before .before .before .before .before .before .before .before .loop .rows) (c .before .before .before .before .before .before .before .before .before .outline-at .result) (c .before .before .before .before .before .before .before .before .before .outline-at .ensures) (c .before .before .before .before .before .if1 .left))
 
 -- src/lib.rt:53:5
 loop-again : tie.Need-loop-again Inv-loop μ-loop
-loop-again c = (write-more _ _ (stacked _ _ _ _ (c .before .before .before .before .before .before .before .before .before .before .before .before .before .before .before .before .before .before .pre .0 .lists) (c .before .before .before .before .before .before .before .before .before .before .before .before .before .before .before .before .before .before .pre .0 .some)) (c .before .before .before .before .before .before .before .before .before .before .before .before .loop .limit) (c .before .before .before .before .before .before .before .before .before .outline-at .result) (c .before .before .before .before .before .before .before .before .before .outline-at .ensures) (c .before .before .before .before .before .if1 .left) _ _ _ (c .before .before .before .before .before .before .before .before .before .before .before .before .loop .inv .0) (c .before .before .before .before .before .before .before .before .before .before .before .before .before .before .before .before .before .before .pre .1) _ (c .before .before .before .put-pair .ensures), c .before .before .before .before .before .before .before .before .before .outline-at .kept .1 .1 .1 .1 .1 .0 ∙ c .before .before .before .before .before .before .before .before .before .before .before .before .loop .inv .1)
+loop-again c = (write-more _ _ (stacked _ _ _ _ (c .before .before .before .before .before .before .before .before .before .before .before .before .before .before .before .before .before .before .pre .0 .lists) (c .before .before .before .before .before .before .before .before .before .before .before .before .before .before .before .before .before .before .pre .0 .some)) (c .before .before .before .before .before .before .before .before .before .before .before .before .loop .rows) (c .before .before .before .before .before .before .before .before .before .outline-at .result) (c .before .before .before .before .before .before .before .before .before .outline-at .ensures) (c .before .before .before .before .before .if1 .left) _ _ _ (c .before .before .before .before .before .before .before .before .before .before .before .before .loop .inv .0) (c .before .before .before .before .before .before .before .before .before .before .before .before .before .before .before .before .before .before .pre .1) _ (c .before .before .before .put-pair .ensures), c .before .before .before .before .before .before .before .before .before .outline-at .kept .1 .1 .1 .1 .1 .0 ∙ c .before .before .before .before .before .before .before .before .before .before .before .before .loop .inv .1)
 
 -- src/lib.rt:47:1
 same-length-3 : tie.Need-same-length-3 Inv-loop μ-loop
@@ -78,7 +78,7 @@ write-table-spec =
     same-length-2
     returns
     put-pair-requires
-    sub-limit
+    sub-rows
     add-at
     loop-less
     loop-again
