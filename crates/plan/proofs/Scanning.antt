@@ -13,7 +13,7 @@ use Rattle.group.specs.Rows.{tall}
 use Rattle.group.specs.Group.{none, widest}
 use Rattle.layout.specs.Layout.{Layout, unmet, candidate, choice, layouts, layoutOf}
 use Rattle.plan.specs.declared.Best.{Best}
-use Rattle.plan.specs.Asks.{layoutIn, GroupAsks, mostRows, FirstAsks, bestTo}
+use Rattle.plan.specs.Asks.{layoutIn, GroupAsks, mostRows, restAt, FirstAsks, bestTo}
 use Rattle.plan.proofs.Columns.{component-at, tall-more, widest-more}
 use Rattle.layout.proofs.Scan.{no-wider}
 use Rattle.layout.proofs.Prune.{Fair}
@@ -61,7 +61,7 @@ module _ {kind : Kind} {limit g0 : ℕ} {hs ws gs widths heights es : List ℕ} 
           ∙ sym (best-stop kind limit g0 cs (length cs) k (omega (arith, long)) (omega (arith, rows-more)))
           ∙ best-of-all kind limit g0 cs (omega (arith, long))
 
-      module _ (l : rows + x ≤ most) (o : most ≤ 4000000) (y wider : ℕ) (ey : y ≡ getD ws k 0) (ew : wider ≡ max wide y) where
+      module _ (l : rows + x ≤ most) (o : most ≤ 4000000) (y wider : ℕ) (ey : y ≡ getD ws k 0) (ew : wider ≡ max wide y) (rest : Best) (er : rest ≡ restAt widths heights k) where
         wide-more : wider ≡ widest (take (suc k) (componentsIn hs ws gs))
         wide-more =
             let e : widest (take (suc k) cs) ≡ max (widest (take k cs)) (getD ws k 0) = rw (component-at hs ws gs k h) at (widest-more cs k (componentIn [] [] [] 0) (omega (arith, long))) in
@@ -71,7 +71,7 @@ module _ {kind : Kind} {limit g0 : ℕ} {hs ws gs widths heights es : List ℕ} 
         part = components-take hs ws gs (k + 1) (omega arith) ∙ ap (λ (z : ℕ). take z cs) (add-one k)
 
         pub group-asks : (now : List ℕ) → length now ≡ length es
-            → (GroupAsks kind limit g0 wider (take (k + 1) hs) (take (k + 1) ws) (take (k + 1) gs) best (record { width = getD widths k 0; height = getD heights k 0; end = 0 }))
+            → (GroupAsks kind limit g0 wider (take (k + 1) hs) (take (k + 1) ws) (take (k + 1) gs) best rest)
             × (rows + x ≡ tall (componentsIn (take (k + 1) hs) (take (k + 1) ws) (take (k + 1) gs))) × (rows + x ≤ 4000000) × (8192 ≤ length now)
         group-asks now n = (
           record {
@@ -81,7 +81,7 @@ module _ {kind : Kind} {limit g0 : ℕ} {hs ws gs widths heights es : List ℕ} 
             before = a .before;
             widest-is = wide-more ∙ ap widest (sym part);
             fair = subst (λ (z : Layout). Fair z) (sym (s .best-is)) (best-fair kind limit g0 cs k);
-            rest-width = omega (arith, a .later .width-is k (omega (arith, long)), no-wider (getD (layouts kind limit g0 cs) (suc k) unmet) none none (layouts-fair kind limit g0 cs (suc k)));
+            rest-width = omega (arith, ap (λ (z : Best). z .width) er, a .later .width-is k (omega (arith, long)), no-wider (getD (layouts kind limit g0 cs) (suc k) unmet) none none (layouts-fair kind limit g0 cs (suc k)));
           },
           rows-more ∙ ap tall (sym part),
           omega arith,
@@ -89,17 +89,15 @@ module _ {kind : Kind} {limit g0 : ℕ} {hs ws gs widths heights es : List ℕ} 
         )
 
         pub scan-more : (r : Best)
-            → layoutIn r ≡ choice (candidate kind limit g0 (componentsIn (take (k + 1) hs) (take (k + 1) ws) (take (k + 1) gs)) (record { width = getD widths k 0; height = getD heights k 0; end = 0 }) (length (take (k + 1) hs))) (layoutIn best)
+            → layoutIn r ≡ choice (candidate kind limit g0 (componentsIn (take (k + 1) hs) (take (k + 1) ws) (take (k + 1) gs)) (layoutIn rest) (k + 1)) (layoutIn best)
             → Scanned kind limit g0 (componentsIn hs ws gs) r (rows + x) wider (k + 1)
         scan-more r e =
             let lk : k < length cs = omega (arith, long) in
-            let rest : Layout = record { width = getD widths k 0; height = getD heights k 0; end = 0 } in
-            let n : length (take (k + 1) hs) ≡ suc k = length-take-le (k + 1) hs (omega arith) ∙ add-one k in
             rw (add-one k) (record {
               within = omega (arith, long);
               best-is =
                   e
-                  ∙ rw (part, n, s .best-is, same-rest kind limit g0 (take (suc k) cs) rest (getD (layouts kind limit g0 cs) (suc k) unmet) (suc k) (a .later .width-is k lk) (a .later .height-is k lk))
+                  ∙ rw (part, add-one k, s .best-is, same-rest kind limit g0 (take (suc k) cs) (layoutIn rest) (getD (layouts kind limit g0 cs) (suc k) unmet) (suc k) (rw er (a .later .width-is k lk)) (rw er (a .later .height-is k lk)))
                   (sym (best-more kind limit g0 cs k));
               tall-is = rows-more;
               low = omega arith;

@@ -5,7 +5,7 @@ use mathlib.Core.Logic.{_⊎_, inl, inr}
 use mathlib.Core.List.{List, []}
 use native.Mathlib.Omega.{arith}
 use lib.ListN.{length, getD, take}
-use lib.Seq.{take-all}
+use lib.Seq.{length-take-le, take-all}
 use Rattle.terms.specs.declared.Component.{Component}
 use Rattle.terms.specs.declared.Kind.{Kind}
 use Rattle.terms.specs.declared.Kind.the-variants.{Apart, Nested}
@@ -108,3 +108,8 @@ module _ {limit g0 wide : ℕ} {hs ws gs : List ℕ} {best rest : Best} (a : Gro
         go (inl p) =
             let f = n .within p in
             rw (candidate-is Nested limit g0 (componentsIn hs ws gs) (layoutIn rest) (length hs) (omega (arith, f .0)) o, ← f .0, ← f .1, ← eh, ← ee) er
+
+-- The first k components of longer columns.
+pub first-tried : (kind : Kind) (limit g0 k : ℕ) (hs : List ℕ) (group : List Component) (rest best r : Layout) → k ≤ length hs
+    → r ≡ choice (candidate kind limit g0 group rest (length (take k hs))) best → r ≡ choice (candidate kind limit g0 group rest k) best
+first-tried kind limit g0 k hs group rest best r h e = rw (length-take-le k hs h) at e

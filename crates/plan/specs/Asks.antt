@@ -31,6 +31,10 @@ abbrev pub mostRows : Kind → ℕ → ℕ
 mostRows Apart limit = limit
 mostRows Nested limit = 2 * limit
 
+-- A first group does not ask where the rest has its own groups.
+abbrev pub restAt : List ℕ → List ℕ → ℕ → Best
+restAt widths heights k = record { width = getD widths k 0; height = getD heights k 0; end = 0 }
+
 -- Two lists hold the best layouts behind 1, 2, 3 and so on components.
 pub record Later (kind : Kind) (limit g0 : ℕ) (cs : List Component) (widths heights : List ℕ) : Type 0 where
   pub width-is : (k : ℕ) → k < length cs → getD widths k 0 ≡ getD (layouts kind limit g0 cs) (suc k) unmet .width

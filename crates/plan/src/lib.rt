@@ -2,13 +2,13 @@
 ghost use mathlib.Core.Path.{_≡_};
 ghost use mathlib.Core.Bool.{Bool};
 ghost use Prim.Native.Nat.{ℕ, _+_, _*_, _≤_, _<_, min, max};
-ghost use lib.ListN.{length, getD};
+ghost use lib.ListN.{length, getD, take};
 ghost use Rattle.terms.specs.declared.Kind.the-variants.{Apart, Nested};
 ghost use Rattle.terms.specs.Component.{componentsIn};
 ghost use Rattle.group.specs.Rows as Rows;
 ghost use Rattle.layout.specs.Layout.{better, candidate, choice, unmet, layouts, layoutOf};
 ghost use Rattle.layout.specs.Plan.{Planned};
-ghost use Rattle.plan.specs.Asks.{layoutIn, GroupAsks, mostRows, FirstAsks, FromAsks, PlanAsks, gapBefore};
+ghost use Rattle.plan.specs.Asks.{layoutIn, GroupAsks, mostRows, restAt, FirstAsks, FromAsks, PlanAsks, gapBefore};
 use numbers::larger;
 use numbers::lesser;
 use numbers::wide;
@@ -153,6 +153,52 @@ fn try_group(
     }
 }
 
+// The first k components as the group.
+fn try_first(
+    kind: Kind,
+    limit: u32,
+    g0: u32,
+    tall: u32,
+    widest: u32,
+    k: usize,
+    h: &[u16],
+    w: &[u16],
+    g: &[u16],
+    best: Best,
+    rest: Best,
+    work: &mut [u32],
+) -> Best
+    requires { ⌜ GroupAsks kind limit g0 widest (take k (now h)) (take k (now w)) (take k (now g)) best rest × (tall ≡ Rows.tall (componentsIn (take k (now h)) (take k (now w)) (take k (now g)))) × (tall ≤ 4000000) × (8192 ≤ length (now work)) ⌝ }
+    requires { ⌜ (k ≤ length (now h)) × (k ≤ length (now w)) × (k ≤ length (now g)) ⌝ }
+    ensures { λ r. ⌜ layoutIn r ≡ choice (candidate kind limit g0 (componentsIn (take k (now (h .entry))) (take k (now (w .entry))) (take k (now (g .entry)))) (layoutIn rest) k) (layoutIn best) ⌝ }
+{
+    try_group(
+        kind,
+        limit,
+        g0,
+        tall,
+        widest,
+        &h[..k],
+        &w[..k],
+        &g[..k],
+        best,
+        rest,
+        work,
+    )
+}
+
+// What the lists hold behind k + 1 components.
+fn rest_at(widths: &[u32], heights: &[u32], k: usize) -> Best
+    requires { ⌜ (k < length (now widths)) × (k < length (now heights)) ⌝ }
+    ensures { λ r. ⌜ r ≡ restAt (now (widths .entry)) (now (heights .entry)) k ⌝ }
+{
+    Best {
+        width: widths[k],
+        height: heights[k],
+        end: 0,
+    }
+}
+
 // The best layout of what is left of a stack, from the best ones behind 1, 2, 3 and so on of its components. Groups that are too tall end the search.
 fn first_group(
     kind: Kind,
@@ -184,25 +230,9 @@ fn first_group(
             return best;
         }
         widest = larger(widest, wide(w[k]));
-        let rest = Best {
-            width: widths[k],
-            height: heights[k],
-            end: 0,
-        };
+        let rest = rest_at(widths, heights, k);
         k += 1;
-        best = try_group(
-            kind,
-            limit,
-            g0,
-            tall,
-            widest,
-            &h[..k],
-            &w[..k],
-            &g[..k],
-            best,
-            rest,
-            work,
-        );
+        best = try_first(kind, limit, g0, tall, widest, k, h, w, g, best, rest, work);
     }
     best
 }

@@ -138,8 +138,8 @@ fn median(mut values: Vec<f64>) -> f64 {
     values[values.len() / 2]
 }
 
-fn middle<'a>(timed: impl Iterator<Item = &'a Timed>, call: usize, method: usize) -> f64 {
-    median(timed.map(|t| t.seconds[call][method]).collect())
+fn middle(timed: &[Timed], call: usize, method: usize) -> f64 {
+    median(timed.iter().map(|t| t.seconds[call][method]).collect())
 }
 
 fn print(kind: &str, rows: &[Row]) {
@@ -148,7 +148,7 @@ fn print(kind: &str, rows: &[Row]) {
     println!("|---:|---|---:|---:|{}", "---:|".repeat(2 * CALLS.len()));
     for row in rows {
         let outlines = median(row.timed.iter().map(|t| t.outlines as f64).collect());
-        let cells = (0..CALLS.len()).flat_map(|call| [0, 1].map(|method| told(middle(row.timed.iter(), call, method))));
+        let cells = (0..CALLS.len()).flat_map(|call| [0, 1].map(|method| told(middle(&row.timed, call, method))));
         let cells = cells.collect::<Vec<String>>().join(" | ");
         println!("| {} | {} | {} | {outlines} | {cells} |", row.count, row.shape, row.timed.len());
     }
@@ -169,13 +169,14 @@ fn told(seconds: f64) -> String {
     format!("{value:.digits$} {unit}")
 }
 
-/// The median over all shapes, for each length.
+/// For each length the median of the shapes' medians, so that each shape counts the same however many stacks it had.
 fn panel(call: usize, nested: &[Row], apart: &[Row]) -> Panel {
     let line = |name, color, rows: &[Row], method: usize| {
         let mut counts: Vec<usize> = rows.iter().map(|row| row.count).collect();
         counts.dedup();
-        let of = |count: usize| rows.iter().filter(move |row| row.count == count).flat_map(|row| &row.timed);
-        let points = counts.iter().map(|&count| (count as f64, middle(of(count), call, method))).collect();
+        let shapes = |count: usize| rows.iter().filter(move |row| row.count == count);
+        let of = |count: usize| median(shapes(count).map(|row| middle(&row.timed, call, method)).collect());
+        let points = counts.iter().map(|&count| (count as f64, of(count))).collect();
         Line { name, color, dashed: method == 1, points }
     };
     let lines = vec![
