@@ -45,3 +45,8 @@ placementAt flat i = record { group = getD flat (3 * i) 0; side = getD flat (3 *
 
 abbrev pub placementsOf : List ℕ → ℕ → List Placement
 placementsOf flat n = tabulate (placementAt flat) n
+
+-- The flat numbers of a run of placements.
+abbrev pub flatOf : List Placement → List ℕ
+flatOf [] = []
+flatOf (p ∷ ps) = p .group ∷ p .side ∷ p .start ∷ flatOf ps

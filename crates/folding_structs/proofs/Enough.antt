@@ -20,7 +20,8 @@ use Rattle.stack.proofs.Valid.{valid}
 use Rattle.folding.specs.declared.Placement.{Placement}
 use Rattle.folding.specs.Placement.{placementAt, placementsOf}
 use Rattle.folding.specs.Calls.{measureIn, measureOf}
-use Rattle.folding_structs.specs.Flat.{flatOf, none}
+use Rattle.folding_structs.specs.Flat.{none}
+use Rattle.folding.specs.Placement.{flatOf}
 
 order : (a b : ℕ) → (a ≤ b) ⊎ (b < a)
 order a b = elim (decLe a b) [ yes h ↦ inl h | no h ↦ inr (omega arith) ]

@@ -6,7 +6,8 @@ use mathlib.Core.List.{List, [], _∷_, _++_, append-assoc}
 use lib.ListN.{length, take, set, getD, length-set}
 use lib.Seq.{take-suc, take-suc-set}
 use Rattle.folding.specs.declared.Placement.{Placement}
-use Rattle.folding_structs.specs.Flat.{flatOf, none}
+use Rattle.folding_structs.specs.Flat.{none}
+use Rattle.folding.specs.Placement.{flatOf}
 
 one : (a : List ℕ) (n m x : ℕ) → m ≡ suc n → n < length a → take m (set a n x) ≡ take n a ++ (x ∷ [])
 one a n m x e h = ap (λ (k : ℕ). take k (set a n x)) e ∙ take-suc-set a n x h

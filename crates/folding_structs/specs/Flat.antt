@@ -1,14 +1,9 @@
--- The flat numbers of a run of placements.
+-- A buffer of flat numbers.
 use Prim.Native.Nat.{ℕ}
-use mathlib.Core.List.{List, [], _∷_}
+use mathlib.Core.List.{List}
 use lib.ListN.{take}
 use Rattle.folding.specs.declared.Placement.{Placement}
 use Rattle.folding_structs.specs.declared.Flat.{Flat}
-
--- "Each is 32 bits", three numbers a placement: group, side, start row.
-abbrev pub flatOf : List Placement → List ℕ
-flatOf [] = []
-flatOf (p ∷ ps) = p .group ∷ p .side ∷ p .start ∷ flatOf ps
 
 -- Where an entry is asked for past the end of a list.
 abbrev pub none : Placement

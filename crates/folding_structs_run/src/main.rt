@@ -1,7 +1,7 @@
 // Measures foldings through the entry that takes placements, and through the flat one, and writes both answers, a line a case.
 ghost use mathlib.Core.Path.{_≡_};
 ghost use Rattle.folding.specs.Calls.{measuredAnswer, measureOf};
-ghost use Rattle.folding_structs.specs.Flat.{flatOf};
+ghost use Rattle.folding.specs.Placement.{flatOf};
 use folding::Measured;
 use folding::Placement;
 use terms::Kind;

@@ -1,11 +1,10 @@
 -- The table of all pairs of sides of one group, in a work buffer: the entry (p, q) is at p * 65 + q.
-use Prim.Native.Nat.{ℕ, _+_, _*_, _≤_, _<_}
+use Prim.Native.Nat.{ℕ, _+_, _*_, _≤_}
 use mathlib.Core.Path.{_≡_}
-use mathlib.Core.List.{List, [], _∷_}
+use mathlib.Core.List.{List, []}
 use lib.ListN.{length, getD}
 use Rattle.terms.specs.declared.Component.{Component}
 use Rattle.terms.specs.Component.{componentsIn}
-use Rattle.folding.specs.declared.Placement.{Placement}
 use Rattle.group.specs.Rows.{rows}
 use Rattle.group.specs.Group.{leftSide, rightSide}
 
@@ -26,8 +25,3 @@ pub record Columns (hs ws : List ℕ) : Type 0 where
 pub record Filled (hs ws es : List ℕ) (cap : ℕ) : Type 0 where
   pub room : 4225 ≤ length es
   pub right : (p q : ℕ) → p ≤ q → q ≤ length hs → getD es (p * 65 + q) 0 ≡ entry hs ws cap p q
-
--- Placements as flat numbers.
-unfoldable pub flatOf : List Placement → List ℕ
-flatOf [] = []
-flatOf (x ∷ ps) = x .group ∷ x .side ∷ x .start ∷ flatOf ps

@@ -13,16 +13,14 @@ use Rattle.folding.specs.declared.Placement.{Placement}
 use Rattle.folding.specs.Placement.{placementAt, placementsOf}
 use Rattle.group.specs.Rows.{ht, wd, rows, Starts, packed, putLeft, putRight, place}
 use Rattle.group.specs.Group.{leftSide, rightSide, onLeft, onRight, groupPlaces}
-use Rattle.group.specs.Table.{flatOf}
+use Rattle.folding.specs.Placement.{flatOf}
 use Rattle.group.proofs.Chains.{order, place-left, place-right, place-left-first, place-right-first}
 
 pub flat-append : (ps qs : List Placement) → flatOf (ps ++ qs) ≡ flatOf ps ++ flatOf qs
-unfolding flatOf
 flat-append [] qs = refl
 flat-append (x ∷ ps) qs = ap (λ (l : List ℕ). x .group ∷ x .side ∷ x .start ∷ l) (flat-append ps qs)
 
 pub flat-length : (ps : List Placement) → length (flatOf ps) ≡ 3 * length ps
-unfolding flatOf
 flat-length [] = refl
 flat-length (x ∷ ps) = omega (arith, flat-length ps)
 
@@ -34,7 +32,7 @@ next-placement a b c l i =
     rw (f, g, e) refl
 
 pub placements-flat : (ps : List Placement) (rest : List ℕ) → placementsOf (flatOf ps ++ rest) (length ps) ≡ ps
-unfolding flatOf tabulate
+unfolding tabulate
 placements-flat [] rest = refl
 placements-flat (x ∷ ps) rest =
     tabulate-front (placementAt (flatOf (x ∷ ps) ++ rest)) (length ps)

@@ -9,7 +9,8 @@ use lib.Seq.{length-take-le, take-append-le, take-take, take-at, drop-at, drop-d
 use Rattle.folding.specs.declared.Placement.{Placement}
 use Rattle.group.specs.Rows.{Starts}
 use Rattle.group.specs.Group.{onLeft, onRight, groupPlaces}
-use Rattle.group.specs.Table.{bare, flatOf}
+use Rattle.group.specs.Table.{bare}
+use Rattle.folding.specs.Placement.{flatOf}
 use Rattle.group_trace.specs.declared.Turn.{Turn}
 use Rattle.group_trace.specs.Trace.{WriteAsks, TurnAsks, startsOf, Turned}
 use Rattle.group_trace.proofs.Flat.{flat-append, flat-length}
@@ -56,7 +57,7 @@ pub record Writing (hs ws old : List ℕ) (g from cap : ℕ) (out : List ℕ) (p
 
 module _ {hs ws es old : List ℕ} {from cap : ℕ} (s : WriteAsks hs ws es old from cap) (g : ℕ) where
   pub start : Writing hs ws old g from cap old from from 0 0
-  unfolding flatOf groupPlaces
+  unfolding groupPlaces
   start = record {
     mid = [];
     count = omega arith;
@@ -96,7 +97,6 @@ module _ {hs ws es old : List ℕ} {from cap : ℕ} (s : WriteAsks hs ws es old 
 
     module _ {t : Turn} (n : Turned cap (bare hs ws) p q a b t) {new : List ℕ} (len : length new ≡ length out) where
       pub left-more : t .left ≡ true → new ≡ take (3 * (p - 1)) out ++ (g ∷ 0 ∷ a ∷ drop (3 * (p - 1) + 3) out) → Writing hs ws old g from cap new (p - 1) q (t .a) (t .b)
-      unfolding flatOf
       left-more l e =
           let h : 0 < p = n .some l in
           record {
@@ -113,7 +113,6 @@ module _ {hs ws es old : List ℕ} {from cap : ℕ} (s : WriteAsks hs ws es old 
           }
 
       pub right-more : t .left ≡ false → new ≡ take (3 * q) out ++ (g ∷ 1 ∷ b ∷ drop (3 * q + 3) out) → Writing hs ws old g from cap new p (q + 1) (t .a) (t .b)
-      unfolding flatOf
       right-more l e =
           let h : q < length hs = omega (arith, n .rest l, bare-length hs ws) in
           let y : Placement = record { group = g; side = 1; start = b } in

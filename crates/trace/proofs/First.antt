@@ -13,7 +13,7 @@ use Rattle.folding.specs.declared.Placement.{Placement}
 use Rattle.folding.specs.Placement.{placementAt, placementsOf}
 use Rattle.group.specs.Rows.{gap}
 use Rattle.group.specs.Group.{none, gapAfter, leastHeight, leastWidth, FoldPoint, nowhere, behind, groupPlaces}
-use Rattle.group.specs.Table.{flatOf}
+use Rattle.folding.specs.Placement.{flatOf}
 use Rattle.group_trace.proofs.Flat.{flat-length, placements-flat}
 use Rattle.layout.specs.Layout.{Layout, unmet, layouts, layoutOf}
 use Rattle.layout.specs.Plan.{PlannedAt, Planned}

@@ -13,7 +13,8 @@ use Rattle.terms.proofs.Parts.{from, back}
 use Rattle.folding.specs.declared.Placement.{Placement}
 use Rattle.folding.specs.Placement.{placementsOf}
 use Rattle.group.specs.Group.{FoldPoint, groupPlaces}
-use Rattle.group.specs.Table.{bare, flatOf}
+use Rattle.group.specs.Table.{bare}
+use Rattle.folding.specs.Placement.{flatOf}
 use Rattle.group.proofs.Bare.{places-bare}
 use Rattle.group_trace.proofs.Flat.{flat-length, places-length}
 use Rattle.layout.specs.Layout.{layoutOf}

@@ -8,7 +8,8 @@ use Rattle.terms.specs.declared.Kind.{Kind}
 use Rattle.terms.specs.Component.{componentsIn}
 use Rattle.folding.specs.Placement.{placementsOf}
 use Rattle.group.specs.Group.{none, FoldPoint, groupPlaces}
-use Rattle.group.specs.Table.{Filled, bare, flatOf}
+use Rattle.group.specs.Table.{Filled, bare}
+use Rattle.folding.specs.Placement.{flatOf}
 use Rattle.layout.specs.Layout.{layoutOf}
 use Rattle.layout.specs.Plan.{StackLists, Planned}
 use Rattle.layout.proofs.Folds.{Folds}

@@ -55,7 +55,8 @@ use Rattle.folding.proofs.Placement as T
 use Rattle.folding.proofs.Placement.Laws as T′
 use Rattle.folding.proofs.Measured as R
 use Rattle.folding.proofs.Measured.Laws as R′
-use Rattle.folding_structs.specs.Flat.{none, flatOf, held}
+use Rattle.folding_structs.specs.Flat.{none, held}
+use Rattle.folding.specs.Placement.{flatOf}
 use Rattle.folding_structs.specs.declared.Flat.{Flat}
 use Rattle.folding_structs.proofs.Lists.{flat-next}
 use Rattle.folding_structs.proofs.Enough.{first-enough}

@@ -57,7 +57,7 @@ use Rattle.folding.proofs.Placement as T
 use Rattle.folding.proofs.Placement.Laws as T′
 use Rattle.folding.proofs.Measured as R
 use Rattle.folding.proofs.Measured.Laws as R′
-use Rattle.folding_structs.specs.Flat.{flatOf}
+use Rattle.folding.specs.Placement.{flatOf}
 use Rattle.folding_structs.proofs.measure_placements as g
 use Rattle.folding_structs.proofs.measure_placements.Symbol as g-def
 use Rattle.folding_structs.proofs.measure_placements.Symbol.{name as #folding-structs·measure-placements}
