@@ -211,7 +211,10 @@ impl Caller {
 fn counted(answer: raw::Count) -> Answer<usize> {
     match answer.refusal {
         0 => Ok(answer.count),
-        number => Err(number),
+        number => {
+            assert_eq!(answer.count, 0, "a refusal carries no count");
+            Err(number)
+        }
     }
 }
 
