@@ -2,23 +2,18 @@ use Rattle.fold.proofs.Checks.{limit-0, limit-over, out-short, work-sho
 use Rattle.fold.proofs.check_lent.Statement.{statement}
 use Rattle.fold.proofs.check_lent.Tie as tie
 
--- src/lib.rt:25:9
 returns : tie.Need-returns
 returns c = let a = c .before .args in limit-0 (a .limit) (a .out) (a .work) (a .n) (a .n) (c .if1 .taken)
 
--- src/lib.rt:28:9
 returns-2 : tie.Need-returns-2
 returns-2 c = let a = c .before .before .args in limit-over (a .limit) (a .out) (a .work) (a .n) (a .n) (c .before .if1 .left) (c .if2 .taken)
 
--- src/lib.rt:31:9
 returns-3 : tie.Need-returns-3
 returns-3 c = let a = c .before .before .before .args in out-short (a .limit) (a .out) (a .work) (a .n) (a .n) (c .before .before .if1 .left) (c .before .if2 .left) (c .if3 .taken)
 
--- src/lib.rt:34:9
 returns-4 : tie.Need-returns-4
 returns-4 c = let a = c .before .before .before .before .args in work-short (a .limit) (a .out) (a .work) (a .n) (a .n) (c .before .before .before .if1 .left) (c .before .before .if2 .left) (c .before .if3 .left) (c .if4 .taken)
 
--- src/lib.rt:21:1
 returns-5 : tie.Need-returns-5
 returns-5 c = let a = c .before .before .before .before .args in all-well (a .limit) (a .out) (a .work) (a .n) (a .n) (c .before .before .before .if1 .left) (c .before .before .if2 .left) (c .before .if3 .left) (c .if4 .left)
 

@@ -13,47 +13,36 @@ use borrow.Author.Needs.{needs}
 use Rattle.fold.proofs.first_to_width.Statement.{statement}
 use Rattle.fold.proofs.first_to_width.Tie as tie
 
--- src/lib.rt:189:11
 check-lent-requires : tie.Need-check-lent-requires
 check-lent-requires c κs = search needs
 
--- src/lib.rt:190:26
 enum-known-k : tie.Need-enum-known-k
 enum-known-k c = search needs
 
--- src/lib.rt:191:59
 enum-told : tie.Need-enum-told
 enum-told c = search needs
 
--- src/lib.rt:191:59
 slice-aggregate-write-slim : tie.Need-slice-aggregate-write-slim
 slice-aggregate-write-slim c = sym (length-take-le _ _ (c .before .before .before .before .before .before .before .before .before .pre .heights-long))
 
--- src/lib.rt:191:68
 slice-aggregate-write-slim-2 : tie.Need-slice-aggregate-write-slim-2
 slice-aggregate-write-slim-2 c = sym (length-take-le _ _ (c .before .before .before .before .before .before .before .before .before .before .pre .widths-long))
 
--- src/lib.rt:191:77
 slice-aggregate-write-slim-3 : tie.Need-slice-aggregate-write-slim-3
 slice-aggregate-write-slim-3 c = sym (length-take-le _ _ (c .before .before .before .before .before .before .before .before .before .before .before .pre .gaps-long))
 
--- src/lib.rt:191:35
 write-slim-requires : tie.Need-write-slim-requires
 write-slim-requires c κs = let a = c .before .before .before .before .before .before .before .before .before .before .before .before .before .args in search-asks (a .kind) (a .n) (a .limit) (now (a .h)) (now (a .w)) (now (a .g)) (now (a .out)) (now (a .work)) (c .before .before .before .before .before .before .before .before .before .before .before .before .before .pre) _ (sym (c .before .before .before .before .before .before .before .check-lent .ensures) ∙ ap countAnswer (c .before .before .before .before .before .enum-told .given .1))
 
--- src/lib.rt:176:1
 returns : tie.Need-returns
 returns c = let a = c .before .before .before .before .before .before .before .before .before .args in first-refused BestForWidth UnmeetableWidth (a .kind) (a .limit) (now (a .out)) (now (a .work)) (a .n) _ (componentsIn (take (a .n) (now (a .h))) (take (a .n) (now (a .w))) (take (a .n) (now (a .g)))) (sym (c .before .before .before .check-lent .ensures) ∙ ap countAnswer (c .before .k .given .1))
 
--- src/lib.rt:176:1
 same-length : tie.Need-same-length
 same-length c = search needs
 
--- src/lib.rt:176:1
 same-length-2 : tie.Need-same-length-2
 same-length-2 c = search needs
 
--- src/lib.rt:176:1
 returns-2 : tie.Need-returns-2
 returns-2 c = let a = c .before .before .before .before .before .before .before .before .before .before .before .before .before .before .before .before .before .before .args in first-searched (a .kind) (a .n) (a .limit) (now (a .h)) (now (a .w)) (now (a .g)) (now (a .out)) (now (a .work)) (c .before .before .before .before .before .before .before .before .before .before .before .before .before .before .before .before .before .before .pre) _ (sym (c .before .before .before .before .before .before .before .before .before .before .before .before .check-lent .ensures) ∙ ap countAnswer (c .before .before .before .before .before .before .before .before .before .before .enum-told .given .1)) BestForWidth UnmeetableWidth (c .before .before .before .before .write-slim .last .1 .1 .1 .1 .1 .0) _ (measuredAnswer (c .before .before .before .before .write-slim .result)) (c .before .before .before .before .write-slim .ensures)
 

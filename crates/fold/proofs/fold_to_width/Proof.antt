@@ -12,59 +12,45 @@ use borrow.Author.Needs.{needs}
 use Rattle.fold.proofs.fold_to_width.Statement.{statement}
 use Rattle.fold.proofs.fold_to_width.Tie as tie
 
--- src/lib.rt:225:38
 slice-aggregate-read-as : tie.Need-slice-aggregate-read-as
 slice-aggregate-read-as c = search needs
 
--- src/lib.rt:225:46
 slice-aggregate-read-as-2 : tie.Need-slice-aggregate-read-as-2
 slice-aggregate-read-as-2 c = search needs
 
--- src/lib.rt:225:54
 slice-aggregate-read-as-3 : tie.Need-slice-aggregate-read-as-3
 slice-aggregate-read-as-3 c = search needs
 
--- src/lib.rt:225:11
 read-as-requires : tie.Need-read-as-requires
 read-as-requires c κs = search needs
 
--- src/lib.rt:226:26
 enum-known-k : tie.Need-enum-known-k
 enum-known-k c = search needs
 
--- src/lib.rt:227:29
 enum-known-n : tie.Need-enum-known-n
 enum-known-n c = search needs
 
--- src/lib.rt:227:68
 slice-aggregate-first-to-width : tie.Need-slice-aggregate-first-to-width
 slice-aggregate-first-to-width c = search needs
 
--- src/lib.rt:227:72
 slice-aggregate-first-to-width-2 : tie.Need-slice-aggregate-first-to-width-2
 slice-aggregate-first-to-width-2 c = search needs
 
--- src/lib.rt:227:76
 slice-aggregate-first-to-width-3 : tie.Need-slice-aggregate-first-to-width-3
 slice-aggregate-first-to-width-3 c = search needs
 
--- src/lib.rt:227:35
 first-to-width-requires : tie.Need-first-to-width-requires
 first-to-width-requires c κs = first-held (read-held _ _ _ _ _ refl refl refl (c .before .before .before .before .before .before .before .before .before .before .before .read-as .ensures) _ (ap countAnswer (c .before .before .before .before .before .before .n .given .1))) (c .before .before .before .before .before .before .before .before .before .before .before .read-as .kept .1 .1 .0) (c .before .before .before .before .before .before .before .before .before .before .before .read-as .kept .1 .1 .1 .0) (c .before .before .before .before .before .before .before .before .before .before .before .read-as .kept .1 .1 .1 .1 .0)
 
--- src/lib.rt:213:1
 returns : tie.Need-returns
 returns c = let a = c .before .before .before .before .before .before .before .before .before .before .before .before .before .args in refused-file BestForWidth UnmeetableWidth (a .kind) (a .limit .0) (now (a .out)) (now (a .work)) (now (a .file)) _ (read-refused _ _ _ _ _ refl refl refl (c .before .before .before .before .before .before .read-as .ensures) _ (ap countAnswer (c .before .k .given .1)))
 
--- src/lib.rt:213:1
 same-length : tie.Need-same-length
 same-length c = search needs
 
--- src/lib.rt:213:1
 same-length-2 : tie.Need-same-length-2
 same-length-2 c = search needs
 
--- src/lib.rt:213:1
 returns-2 : tie.Need-returns-2
 returns-2 c = let a = c .before .before .before .before .before .before .before .before .before .before .before .before .before .before .before .before .before .before .before .before .before .before .before .args in of-file BestForWidth UnmeetableWidth (a .kind) (a .limit .0) (now (a .out)) (now (a .work)) (read-held _ _ _ _ _ refl refl refl (c .before .before .before .before .before .before .before .before .before .before .before .before .before .before .before .before .read-as .ensures) _ (ap countAnswer (c .before .before .before .before .before .before .before .before .before .before .before .n .given .1))) (c .before .before .before .before .first-to-width .last .1 .1 .1 .1 .1 .1 .0) (c .before .before .before .before .first-to-width .last .1 .1 .1 .1 .1 .1 .1 .0) (measuredAnswer (c .before .before .before .before .first-to-width .result)) (c .before .before .before .before .first-to-width .ensures)
 

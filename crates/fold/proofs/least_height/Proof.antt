@@ -16,47 +16,36 @@ Inv-loop kind most h w g work₀ lo₀ hi₀ work lo hi = Halving kind (componen
 abbrev μ-loop : tie.MeasureT-loop
 μ-loop kind most h w g work₀ lo₀ hi₀ work lo hi = hi - lo
 
--- src/lib.rt:122:5
 loop-holds : tie.Need-loop-holds Inv-loop μ-loop
 loop-holds c = (starts _ _ (stacked _ _ _ _ (c .before .before .before .before .pre .0 .lists) (c .before .before .before .before .pre .0 .some)) _ (c .before .before .before .before .pre .1) (c .before .before .before .before .pre .2), refl)
 
--- src/lib.rt:123:25
 sub-mid : tie.Need-sub-mid Inv-loop μ-loop
 sub-mid c = search needs
 
--- src/lib.rt:123:19
 add-mid : tie.Need-add-mid Inv-loop μ-loop
 add-mid c = omega (arith, c .before .loop .inv .0 .most)
 
--- src/lib.rt:124:13
 outline-at-requires : tie.Need-outline-at-requires Inv-loop μ-loop
 outline-at-requires c κs = (record { lists = c .before .before .before .before .before .before .before .pre .0 .lists; some = c .before .before .before .before .before .before .before .pre .0 .some; room = omega (arith, c .before .before .loop .inv .1, c .before .before .before .before .before .before .before .pre .0 .room) }, omega (arith, c .before .before .loop .inv .0 .most))
 
--- src/lib.rt:122:5
 loop-less : tie.Need-loop-less Inv-loop μ-loop
 loop-less c = omega arith
 
--- src/lib.rt:122:5
 loop-again : tie.Need-loop-again Inv-loop μ-loop
 loop-again c = (lower _ _ (stacked _ _ _ _ (c .before .before .before .before .before .before .before .before .before .before .before .before .pre .0 .lists) (c .before .before .before .before .before .before .before .before .before .before .before .before .pre .0 .some)) _ (c .before .before .before .before .before .before .before .before .before .before .before .before .pre .1) _ _ (c .before .before .before .before .before .before .loop-test .taken) (c .before .before .before .before .before .before .before .loop .inv .0) _ (c .before .before .before .before .outline-at .ensures) (c .if1 .taken), c .before .before .before .before .outline-at .kept .1 .1 .1 .1 .1 .0 ∙ c .before .before .before .before .before .before .before .loop .inv .1)
 
--- src/lib.rt:128:18
 add-lo : tie.Need-add-lo Inv-loop μ-loop
 add-lo c = omega (arith, c .before .before .before .before .before .before .before .loop .inv .0 .most)
 
--- src/lib.rt:122:5
 loop-less-2 : tie.Need-loop-less-2 Inv-loop μ-loop
 loop-less-2 c = omega arith
 
--- src/lib.rt:122:5
 loop-again-2 : tie.Need-loop-again-2 Inv-loop μ-loop
 loop-again-2 c = (raise _ _ (stacked _ _ _ _ (c .before .before .before .before .before .before .before .before .before .before .before .before .pre .0 .lists) (c .before .before .before .before .before .before .before .before .before .before .before .before .pre .0 .some)) _ (c .before .before .before .before .before .before .before .before .before .before .before .before .pre .1) _ _ (c .before .before .before .before .before .before .loop-test .taken) (c .before .before .before .before .before .before .before .loop .inv .0) _ (c .before .before .before .before .outline-at .ensures) (c .if1 .left), c .before .before .before .before .outline-at .kept .1 .1 .1 .1 .1 .0 ∙ c .before .before .before .before .before .before .before .loop .inv .1)
 
--- src/lib.rt:109:1
 same-length : tie.Need-same-length Inv-loop μ-loop
 same-length c = c .before .loop .inv .1
 
--- src/lib.rt:109:1
 returns : tie.Need-returns Inv-loop μ-loop
 returns c = found _ _ (stacked _ _ _ _ (c .before .before .before .before .before .before .pre .0 .lists) (c .before .before .before .before .before .before .pre .0 .some)) _ (c .before .before .before .before .before .before .pre .1) _ _ (c .loop-test .left) (c .before .loop .inv .0)
 

@@ -5,35 +5,27 @@ use borrow.Author.Needs.{needs}
 use Rattle.fold.proofs.outline_at.Statement.{statement}
 use Rattle.fold.proofs.outline_at.Tie as tie
 
--- src/lib.rt:60:9
 slice-aggregate-plan : tie.Need-slice-aggregate-plan
 slice-aggregate-plan c = search needs
 
--- src/lib.rt:61:9
 slice-aggregate-plan-2 : tie.Need-slice-aggregate-plan-2
 slice-aggregate-plan-2 c = search needs
 
--- src/lib.rt:62:9
 slice-aggregate-plan-3 : tie.Need-slice-aggregate-plan-3
 slice-aggregate-plan-3 c = search needs
 
--- src/lib.rt:54:5
 plan-requires : tie.Need-plan-requires
 plan-requires c κs = plan-asks _ _ _ _ _ _ (c .before .before .before .before .before .before .before .before .pre .0) (c .before .before .before .before .before .before .before .before .pre .1) _ _ _ refl refl refl
 
--- src/lib.rt:66:23
 array-read-t21 : tie.Need-array-read-t21
 array-read-t21 c = search needs
 
--- src/lib.rt:67:22
 array-read-t25 : tie.Need-array-read-t25
 array-read-t25 c = search needs
 
--- src/lib.rt:40:1
 same-length : tie.Need-same-length
 same-length c = search needs
 
--- src/lib.rt:40:1
 returns : tie.Need-returns
 returns c = planned-outline _ _ _ _ _ _ (c .before .before .before .before .before .before .before .before .before .before .before .before .before .before .pre .0) (c .before .before .before .before .before .before .before .before .before .before .before .before .before .before .pre .1) _ _ _ (c .before .before .before .before .before .plan .ensures)
 

@@ -7,35 +7,27 @@ use borrow.Author.Needs.{needs}
 use Rattle.fold.proofs.write_slim.Statement.{statement}
 use Rattle.fold.proofs.write_slim.Tie as tie
 
--- src/lib.rt:147:9
 outline-at-requires : tie.Need-outline-at-requires
 outline-at-requires c κs = search needs
 
--- src/lib.rt:149:9
 same-length : tie.Need-same-length
 same-length c = search needs
 
--- src/lib.rt:149:9
 returns : tie.Need-returns
 returns c = too-wide _ _ (stacked _ _ _ _ (c .before .before .before .before .before .before .before .before .before .before .before .pre .0 .lists) (c .before .before .before .before .before .before .before .before .before .before .before .pre .0 .some)) _ (c .before .before .before .before .before .before .before .before .before .before .before .pre .1) _ _ (c .before .before .before .before .outline-at .ensures) (c .if1 .taken)
 
--- src/lib.rt:151:9
 least-height-requires : tie.Need-least-height-requires
 least-height-requires c κs = (record { lists = c .before .before .before .before .before .before .before .before .before .before .before .before .pre .0 .lists; some = c .before .before .before .before .before .before .before .before .before .before .before .before .pre .0 .some; room = omega (arith, c .before .before .before .before .before .outline-at .kept .1 .1 .1 .1 .1 .0, c .before .before .before .before .before .before .before .before .before .before .before .before .pre .0 .room) }, c .before .before .before .before .before .before .before .before .before .before .before .before .pre .1, within-all _ _ (stacked _ _ _ _ (c .before .before .before .before .before .before .before .before .before .before .before .before .pre .0 .lists) (c .before .before .before .before .before .before .before .before .before .before .before .before .pre .0 .some)) _ (c .before .before .before .before .before .before .before .before .before .before .before .before .pre .1) _ (c .before .before .before .before .before .outline-at .ensures) (c .before .if1 .left))
 
--- src/lib.rt:152:5
 write-best-requires : tie.Need-write-best-requires
 write-best-requires c κs = (record { lists = c .before .before .before .before .before .before .before .before .before .before .before .before .before .before .before .before .before .pre .0 .lists; some = c .before .before .before .before .before .before .before .before .before .before .before .before .before .before .before .before .before .pre .0 .some; room = omega (arith, c .before .before .before .before .before .before .before .before .before .before .outline-at .kept .1 .1 .1 .1 .1 .0, c .before .before .before .before .least-height .kept .1 .1 .1 .1 .1 .0, c .before .before .before .before .before .before .before .before .before .before .before .before .before .before .before .before .before .pre .0 .room) }, c .before .before .before .before .least-height .ensures .most, c .before .before .before .before .before .before .before .before .before .before .before .before .before .before .before .before .before .pre .2)
 
--- src/lib.rt:135:1
 same-length-2 : tie.Need-same-length-2
 same-length-2 c = search needs
 
--- src/lib.rt:135:1
 same-length-3 : tie.Need-same-length-3
 same-length-3 c = search needs
 
--- src/lib.rt:135:1
 returns-2 : tie.Need-returns-2
 returns-2 c = to-width _ _ (stacked _ _ _ _ (c .before .before .before .before .before .before .before .before .before .before .before .before .before .before .before .before .before .before .before .before .before .before .pre .0 .lists) (c .before .before .before .before .before .before .before .before .before .before .before .before .before .before .before .before .before .before .before .before .before .before .pre .0 .some)) _ (c .before .before .before .before .before .before .before .before .before .before .before .before .before .before .before .before .before .before .before .before .before .before .pre .1) _ _ (c .before .before .before .before .write-best .last .1 .1 .1 .1 .1 .0) (measuredAnswer (c .before .before .before .before .write-best .result)) (c .before .before .before .before .before .before .before .before .before .least-height .ensures) (c .before .before .before .before .write-best .ensures)
 

@@ -14,43 +14,33 @@ Inv-loop kind h w g work₀ limit₀ n₀ work limit n = CountedTo kind (compone
 abbrev μ-loop : tie.MeasureT-loop
 μ-loop kind h w g work₀ limit₀ n₀ work limit n = limit
 
--- src/lib.rt:27:5
 loop-holds : tie.Need-loop-holds Inv-loop μ-loop
 loop-holds c = (count-starts _ _, refl)
 
--- src/lib.rt:28:13
 outline-at-requires : tie.Need-outline-at-requires Inv-loop μ-loop
 outline-at-requires c κs = (record { lists = c .before .before .before .before .before .before .before .pre .lists; some = c .before .before .before .before .before .before .before .pre .some; room = omega (arith, c .before .before .loop .inv .1, c .before .before .before .before .before .before .before .pre .room) }, c .before .before .loop .inv .0 .most)
 
--- src/lib.rt:30:13
 same-length : tie.Need-same-length Inv-loop μ-loop
 same-length c = c .before .before .before .before .outline-at .kept .1 .1 .1 .1 .1 .0 ∙ c .before .before .before .before .before .before .before .loop .inv .1
 
--- src/lib.rt:30:13
 returns : tie.Need-returns Inv-loop μ-loop
 returns c = count-all _ _ (stacked _ _ _ _ (c .before .before .before .before .before .before .before .before .before .before .before .before .pre .lists) (c .before .before .before .before .before .before .before .before .before .before .before .before .pre .some)) _ _ (no-more _ _ (stacked _ _ _ _ (c .before .before .before .before .before .before .before .before .before .before .before .before .pre .lists) (c .before .before .before .before .before .before .before .before .before .before .before .before .pre .some)) (c .before .before .before .before .before .before .before .loop .limit) (c .before .before .before .before .outline-at .result) (c .before .before .before .before .outline-at .ensures) (c .if1 .taken)) (c .before .before .before .before .before .before .before .loop .inv .0)
 
--- src/lib.rt:32:17
 sub-limit : tie.Need-sub-limit Inv-loop μ-loop
 sub-limit c = omega (arith, high _ _ (stacked _ _ _ _ (c .before .before .before .before .before .before .before .before .before .before .before .before .before .pre .lists) (c .before .before .before .before .before .before .before .before .before .before .before .before .before .pre .some)) (c .before .before .before .before .before .before .before .before .loop .limit) (c .before .before .before .before .before .outline-at .result) (c .before .before .before .before .before .outline-at .ensures) (c .before .if1 .left))
 
--- src/lib.rt:33:9
 add-n : tie.Need-add-n Inv-loop μ-loop
 add-n c = omega (arith, count-few _ _ (stacked _ _ _ _ (c .before .before .before .before .before .before .before .before .before .before .before .before .before .pre .lists) (c .before .before .before .before .before .before .before .before .before .before .before .before .before .pre .some)) (c .before .before .before .before .before .before .before .before .loop .limit) (c .before .before .before .before .before .outline-at .result) (c .before .before .before .before .before .outline-at .ensures) (c .before .if1 .left) _ (c .before .before .before .before .before .before .before .before .loop .inv .0))
 
--- src/lib.rt:27:5
 loop-less : tie.Need-loop-less Inv-loop μ-loop
 loop-less c = omega (arith, high _ _ (stacked _ _ _ _ (c .before .before .before .before .before .before .before .before .before .before .before .before .before .pre .lists) (c .before .before .before .before .before .before .before .before .before .before .before .before .before .pre .some)) (c .before .before .before .before .before .before .before .before .loop .limit) (c .before .before .before .before .before .outline-at .result) (c .before .before .before .before .before .outline-at .ensures) (c .before .if1 .left), falls _ _ (stacked _ _ _ _ (c .before .before .before .before .before .before .before .before .before .before .before .before .before .pre .lists) (c .before .before .before .before .before .before .before .before .before .before .before .before .before .pre .some)) (c .before .before .before .before .before .before .before .before .loop .limit) (c .before .before .before .before .before .outline-at .result) (c .before .before .before .before .before .outline-at .ensures) (c .before .if1 .left))
 
--- src/lib.rt:27:5
 loop-again : tie.Need-loop-again Inv-loop μ-loop
 loop-again c = (count-more _ _ (stacked _ _ _ _ (c .before .before .before .before .before .before .before .before .before .before .before .before .before .pre .lists) (c .before .before .before .before .before .before .before .before .before .before .before .before .before .pre .some)) (c .before .before .before .before .before .before .before .before .loop .limit) (c .before .before .before .before .before .outline-at .result) (c .before .before .before .before .before .outline-at .ensures) (c .before .if1 .left) _ (c .before .before .before .before .before .before .before .before .loop .inv .0), c .before .before .before .before .before .outline-at .kept .1 .1 .1 .1 .1 .0 ∙ c .before .before .before .before .before .before .before .before .loop .inv .1)
 
--- src/lib.rt:21:1
 same-length-2 : tie.Need-same-length-2 Inv-loop μ-loop
 same-length-2 c = c .before .loop .inv .1
 
--- src/lib.rt:21:1
 returns-2 : tie.Need-returns-2 Inv-loop μ-loop
 returns-2 c = count-all _ _ (stacked _ _ _ _ (c .before .before .before .before .before .before .pre .lists) (c .before .before .before .before .before .before .pre .some)) _ _ (none-to _ _ _ (c .loop-test .left)) (c .before .loop .inv .0)
 

@@ -11,59 +11,45 @@ use borrow.Author.Needs.{needs}
 use Rattle.fold_table.proofs.outline_table.Statement.{statement}
 use Rattle.fold_table.proofs.outline_table.Tie as tie
 
--- src/lib.rt:109:38
 slice-aggregate-read-as : tie.Need-slice-aggregate-read-as
 slice-aggregate-read-as c = search needs
 
--- src/lib.rt:109:46
 slice-aggregate-read-as-2 : tie.Need-slice-aggregate-read-as-2
 slice-aggregate-read-as-2 c = search needs
 
--- src/lib.rt:109:54
 slice-aggregate-read-as-3 : tie.Need-slice-aggregate-read-as-3
 slice-aggregate-read-as-3 c = search needs
 
--- src/lib.rt:109:11
 read-as-requires : tie.Need-read-as-requires
 read-as-requires c κs = search needs
 
--- src/lib.rt:110:26
 enum-known-k : tie.Need-enum-known-k
 enum-known-k c = search needs
 
--- src/lib.rt:111:29
 enum-known-n : tie.Need-enum-known-n
 enum-known-n c = search needs
 
--- src/lib.rt:111:59
 slice-aggregate-first-outlines : tie.Need-slice-aggregate-first-outlines
 slice-aggregate-first-outlines c = search needs
 
--- src/lib.rt:111:63
 slice-aggregate-first-outlines-2 : tie.Need-slice-aggregate-first-outlines-2
 slice-aggregate-first-outlines-2 c = search needs
 
--- src/lib.rt:111:67
 slice-aggregate-first-outlines-3 : tie.Need-slice-aggregate-first-outlines-3
 slice-aggregate-first-outlines-3 c = search needs
 
--- src/lib.rt:111:35
 first-outlines-requires : tie.Need-first-outlines-requires
 first-outlines-requires c κs = first-held (read-held _ _ _ _ _ refl refl refl (c .before .before .before .before .before .before .before .before .before .before .before .read-as .ensures) _ (ap countAnswer (c .before .before .before .before .before .before .n .given .1))) (c .before .before .before .before .before .before .before .before .before .before .before .read-as .kept .1 .1 .0) (c .before .before .before .before .before .before .before .before .before .before .before .read-as .kept .1 .1 .1 .0) (c .before .before .before .before .before .before .before .before .before .before .before .read-as .kept .1 .1 .1 .1 .0)
 
--- src/lib.rt:103:1
 returns : tie.Need-returns
 returns c = let a = c .before .before .before .before .before .before .before .before .before .before .before .before .before .args in refused-file (a .kind) (now (a .out)) (now (a .work)) (now (a .file)) _ (read-refused _ _ _ _ _ refl refl refl (c .before .before .before .before .before .before .read-as .ensures) _ (ap countAnswer (c .before .k .given .1)))
 
--- src/lib.rt:103:1
 same-length : tie.Need-same-length
 same-length c = search needs
 
--- src/lib.rt:103:1
 same-length-2 : tie.Need-same-length-2
 same-length-2 c = search needs
 
--- src/lib.rt:103:1
 returns-2 : tie.Need-returns-2
 returns-2 c = let a = c .before .before .before .before .before .before .before .before .before .before .before .before .before .before .before .before .before .before .before .before .before .before .before .args in of-file (a .kind) (now (a .out)) (now (a .work)) (read-held _ _ _ _ _ refl refl refl (c .before .before .before .before .before .before .before .before .before .before .before .before .before .before .before .before .read-as .ensures) _ (ap countAnswer (c .before .before .before .before .before .before .before .before .before .before .before .n .given .1))) (c .before .before .before .before .first-outlines .last .1 .1 .1 .1 .1 .0) (c .before .before .before .before .first-outlines .last .1 .1 .1 .1 .1 .1 .0) (listedAnswer (c .before .before .before .before .first-outlines .result)) (c .before .before .before .before .first-outlines .ensures)
 

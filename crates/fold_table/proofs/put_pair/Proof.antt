@@ -6,31 +6,24 @@ use borrow.Author.Needs.{needs}
 use Rattle.fold_table.proofs.put_pair.Statement.{statement}
 use Rattle.fold_table.proofs.put_pair.Tie as tie
 
--- src/lib.rt:42:5
 mul-out : tie.Need-mul-out
 mul-out c = search needs
 
--- src/lib.rt:42:5
 slice-write-out : tie.Need-slice-write-out
 slice-write-out c = search needs
 
--- src/lib.rt:43:9
 add-out : tie.Need-add-out
 add-out c = search needs
 
--- src/lib.rt:43:5
 mul-out-2 : tie.Need-mul-out-2
 mul-out-2 c = search needs
 
--- src/lib.rt:43:5
 slice-write-out-2 : tie.Need-slice-write-out-2
 slice-write-out-2 c = simp length-set (omega (arith, c .pre))
 
--- src/lib.rt:38:1
 same-length : tie.Need-same-length
 same-length c = search needs
 
--- src/lib.rt:38:1
 returns : tie.Need-returns
 returns c = two-set _ _ _ _ (c .pre)
 

@@ -11,43 +11,33 @@ Inv-loop flat₀ n i₀ flat i = (i ≤ n) × (length flat ≡ length flat₀)
 abbrev μ-loop : tie.MeasureT-loop
 μ-loop flat₀ n i₀ flat i = n - i
 
--- src/main.rt:266:5
 loop-holds : tie.Need-loop-holds Inv-loop μ-loop
 loop-holds c = search needs
 
--- src/main.rt:267:22
 cast-at : tie.Need-cast-at Inv-loop μ-loop
 cast-at c = search needs
 
--- src/main.rt:267:18
 mul-at : tie.Need-mul-at Inv-loop μ-loop
 mul-at c = search needs
 
--- src/main.rt:268:9
 mul-flat : tie.Need-mul-flat Inv-loop μ-loop
 mul-flat c = search needs
 
--- src/main.rt:268:9
 slice-write-flat : tie.Need-slice-write-flat Inv-loop μ-loop
 slice-write-flat c = search needs
 
--- src/main.rt:269:9
 add-i : tie.Need-add-i Inv-loop μ-loop
 add-i c = search needs
 
--- src/main.rt:266:5
 loop-less : tie.Need-loop-less Inv-loop μ-loop
 loop-less c = search needs
 
--- src/main.rt:266:5
 loop-again : tie.Need-loop-again Inv-loop μ-loop
 loop-again c = search needs
 
--- src/main.rt:261:1
 same-length : tie.Need-same-length Inv-loop μ-loop
 same-length c = search needs
 
--- src/main.rt:261:1
 returns : tie.Need-returns Inv-loop μ-loop
 returns c = search needs
 

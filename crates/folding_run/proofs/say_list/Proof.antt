@@ -11,43 +11,33 @@ Inv-loop list i₀ t3 i = (i ≤ length list) × (length t3 ≡ 1)
 abbrev μ-loop : tie.MeasureT-loop
 μ-loop list i₀ t3 i = length list - i
 
--- src/main.rt:325:5
 loop-holds : tie.Need-loop-holds Inv-loop μ-loop
 loop-holds c = search needs
 
--- src/main.rt:326:20
 mul-say-number : tie.Need-mul-say-number Inv-loop μ-loop
 mul-say-number c = search needs
 
--- src/main.rt:326:20
 shared-slice-read-say-number : tie.Need-shared-slice-read-say-number Inv-loop μ-loop
 shared-slice-read-say-number c = search needs
 
--- src/main.rt:326:9
 say-number-requires : tie.Need-say-number-requires Inv-loop μ-loop
 say-number-requires c κs = search needs
 
--- src/main.rt:327:9
 add-i : tie.Need-add-i Inv-loop μ-loop
 add-i c = search needs
 
--- src/main.rt:325:5
 loop-less : tie.Need-loop-less Inv-loop μ-loop
 loop-less c = search needs
 
--- src/main.rt:325:5
 loop-again : tie.Need-loop-again Inv-loop μ-loop
 loop-again c = search needs
 
--- src/main.rt:329:9
 slice-aggregate-say : tie.Need-slice-aggregate-say Inv-loop μ-loop
 slice-aggregate-say c = search needs
 
--- src/main.rt:329:5
 say-requires : tie.Need-say-requires Inv-loop μ-loop
 say-requires c κs = search needs
 
--- src/main.rt:323:1
 returns : tie.Need-returns Inv-loop μ-loop
 returns c = search needs
 

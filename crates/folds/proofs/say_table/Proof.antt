@@ -5,71 +5,54 @@ use borrow.Author.Needs.{needs}
 use Rattle.folds.proofs.say_table.Statement.{statement}
 use Rattle.folds.proofs.say_table.Tie as tie
 
--- src/main.rt:30:11
 outline-table-requires : tie.Need-outline-table-requires
 outline-table-requires c κs = search needs
 
--- src/main.rt:31:26
 enum-known-n : tie.Need-enum-known-n
 enum-known-n c = search needs
 
--- src/main.rt:31:32
 say-pairs-requires : tie.Need-say-pairs-requires
 say-pairs-requires c κs = fits (c .before .before .before .before .before .before .before .before .before .before .before .before .before .before .before .args .kind) (now (c .before .before .before .before .before .before .before .before .before .before .before .before .before .before .before .args .file)) (now (c .before .before .before .before .before .before .before .before .before .before .before .before .before .before .before .args .pairs)) (now (c .before .before .before .before .before .before .before .before .before .before .before .before .before .before .before .args .work)) (c .before .before .before .before .before .before .before .before .outline-table .last .1 .1 .0) (c .before .before .before .before .before .before .before .before .outline-table .last .1 .1 .1 .0) _ _ (c .before .before .before .before .before .before .before .before .outline-table .ensures) (c .before .before .n .given .1) (c .before .before .before .before .before .before .before .before .outline-table .kept .1 .1 .0)
 
--- src/main.rt:32:25
 enum-known-k : tie.Need-enum-known-k
 enum-known-k c = search needs
 
--- src/main.rt:33:13
 say-requires : tie.Need-say-requires
 say-requires c κs = search needs
 
--- src/main.rt:34:17
 slice-aggregate-say : tie.Need-slice-aggregate-say
 slice-aggregate-say c = search needs
 
--- src/main.rt:34:13
 say-requires-2 : tie.Need-say-requires-2
 say-requires-2 c κs = search needs
 
--- src/main.rt:35:24
 number-requires : tie.Need-number-requires
 number-requires c κs = search needs
 
--- src/main.rt:35:13
 say-number-requires : tie.Need-say-number-requires
 say-number-requires c κs = search needs
 
--- src/main.rt:36:17
 slice-aggregate-say-2 : tie.Need-slice-aggregate-say-2
 slice-aggregate-say-2 c = search needs
 
--- src/main.rt:36:13
 say-requires-3 : tie.Need-say-requires-3
 say-requires-3 c κs = search needs
 
--- src/main.rt:29:1
 same-length : tie.Need-same-length
 same-length c = search needs
 
--- src/main.rt:29:1
 same-length-2 : tie.Need-same-length-2
 same-length-2 c = search needs
 
--- src/main.rt:29:1
 returns : tie.Need-returns
 returns c = search needs
 
--- src/main.rt:29:1
 same-length-3 : tie.Need-same-length-3
 same-length-3 c = search needs
 
--- src/main.rt:29:1
 same-length-4 : tie.Need-same-length-4
 same-length-4 c = search needs
 
--- src/main.rt:29:1
 returns-2 : tie.Need-returns-2
 returns-2 c = search needs
 

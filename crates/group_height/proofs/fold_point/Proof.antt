@@ -2,11 +2,9 @@ use Rattle.group_height.proofs.Passing.{pass-asks, is-point}
 use Rattle.group_height.proofs.fold_point.Statement.{statement}
 use Rattle.group_height.proofs.fold_point.Tie as tie
 
--- src/lib.rt:90:9
 over-folds-requires : tie.Need-over-folds-requires
 over-folds-requires c κs = pass-asks (c .before .before .before .before .pre .0) (c .before .before .before .before .pre .1)
 
--- src/lib.rt:86:1
 returns : tie.Need-returns
 returns c = is-point (c .before .before .before .before .before .pre .0) (c .before .before .before .before .before .pre .1) _ _ (c .over-folds .ensures)
 

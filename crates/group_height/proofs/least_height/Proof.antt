@@ -2,19 +2,15 @@ use Rattle.group_height.proofs.Passing.{pass-asks, is-least}
 use Rattle.group_height.proofs.least_height.Statement.{statement}
 use Rattle.group_height.proofs.least_height.Tie as tie
 
--- src/lib.rt:81:5
 fill-requires : tie.Need-fill-requires
 fill-requires c κs = c .before .before .before .before .before .pre .table
 
--- src/lib.rt:82:9
 over-folds-requires : tie.Need-over-folds-requires
 over-folds-requires c κs = pass-asks (c .before .before .before .before .before .before .before .before .before .pre) (c .before .before .before .fill .ensures)
 
--- src/lib.rt:77:1
 same-length : tie.Need-same-length
 same-length c = c .before .before .before .before .fill .kept .1 .1 .0
 
--- src/lib.rt:77:1
 returns : tie.Need-returns
 returns c = is-least (c .before .before .before .before .before .before .before .before .before .before .pre) (c .before .before .before .before .fill .ensures) _ _ (c .over-folds .ensures)
 

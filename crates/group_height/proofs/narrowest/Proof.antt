@@ -11,59 +11,45 @@ Inv-loop g0 h w g e₀ limit widest cap v₀ lo₀ hi₀ e v lo hi = Halving g0 
 abbrev μ-loop : tie.MeasureT-loop
 μ-loop g0 h w g e₀ limit widest cap v₀ lo₀ hi₀ e v lo hi = hi - lo
 
--- src/lib.rt:99:9
 least-height-requires : tie.Need-least-height-requires Inv-loop μ-loop
 least-height-requires c κs = c .before .before .before .before .before .pre .asks
 
--- src/lib.rt:101:9
 same-length : tie.Need-same-length Inv-loop μ-loop
 same-length c = c .before .before .before .least-height .kept .1 .1 .1 .1 .0
 
--- src/lib.rt:101:9
 returns : tie.Need-returns Inv-loop μ-loop
 returns c = too-high (c .before .before .before .before .before .before .before .before .before .pre) _ _ (c .before .before .before .least-height .ensures) (c .if1 .taken)
 
--- src/lib.rt:105:5
 loop-holds : tie.Need-loop-holds Inv-loop μ-loop
 loop-holds c = halving-start (c .before .before .before .before .before .before .before .before .before .pre) _ _ (omega (arith, c .before .before .before .before .before .before .before .before .before .pre .asks .table .room, c .before .before .before .least-height .kept .1 .1 .1 .1 .0)) (c .before .before .before .least-height .ensures) (c .if1 .left)
 
--- src/lib.rt:106:25
 sub-mid : tie.Need-sub-mid Inv-loop μ-loop
 sub-mid c = omega arith
 
--- src/lib.rt:106:19
 add-mid : tie.Need-add-mid Inv-loop μ-loop
 add-mid c = omega (arith, c .before .loop .inv .to, cap-low (c .before .before .before .before .before .before .before .before .before .before .before .pre))
 
--- src/lib.rt:107:13
 least-height-requires-2 : tie.Need-least-height-requires-2 Inv-loop μ-loop
 least-height-requires-2 c κs = again (c .before .before .before .before .before .before .before .before .before .before .before .before .pre) _ (c .before .before .loop .inv .room)
 
--- src/lib.rt:105:5
 loop-less : tie.Need-loop-less Inv-loop μ-loop
 loop-less c = omega arith
 
--- src/lib.rt:105:5
 loop-again : tie.Need-loop-again Inv-loop μ-loop
 loop-again c = lower-half (c .before .before .before .before .before .before .before .before .before .before .before .before .before .before .before .before .pre) (c .before .before .before .before .before .before .loop .inv) (c .before .before .before .before .before .before .loop .lo + (c .before .before .before .before .before .before .loop .hi - c .before .before .before .before .before .before .loop .lo) / 2) _ (c .before .before .before .least-height2 .ensures) _ (c .before .before .before .least-height2 .kept .1 .1 .1 .1 .0) (omega (arith, c .before .before .before .before .before .loop-test .taken)) (omega (arith, c .before .before .before .before .before .loop-test .taken)) (c .if2 .taken)
 
--- src/lib.rt:112:18
 add-lo : tie.Need-add-lo Inv-loop μ-loop
 add-lo c = omega (arith, c .before .before .before .before .before .before .loop .inv .to, cap-low (c .before .before .before .before .before .before .before .before .before .before .before .before .before .before .before .before .pre))
 
--- src/lib.rt:105:5
 loop-less-2 : tie.Need-loop-less-2 Inv-loop μ-loop
 loop-less-2 c = omega arith
 
--- src/lib.rt:105:5
 loop-again-2 : tie.Need-loop-again-2 Inv-loop μ-loop
 loop-again-2 c = upper-half (c .before .before .before .before .before .before .before .before .before .before .before .before .before .before .before .before .pre) (c .before .before .before .before .before .before .loop .inv) (c .before .before .before .before .before .before .loop .lo + (c .before .before .before .before .before .before .loop .hi - c .before .before .before .before .before .before .loop .lo) / 2) _ (c .before .before .before .least-height2 .ensures) _ (c .before .before .before .least-height2 .kept .1 .1 .1 .1 .0) (omega (arith, c .before .before .before .before .before .loop-test .taken)) (omega (arith, c .before .before .before .before .before .loop-test .taken)) (c .if2 .left)
 
--- src/lib.rt:95:1
 same-length-2 : tie.Need-same-length-2 Inv-loop μ-loop
 same-length-2 c = c .before .loop .inv .long ∙ c .before .before .before .before .before .least-height .kept .1 .1 .1 .1 .0
 
--- src/lib.rt:95:1
 returns-2 : tie.Need-returns-2 Inv-loop μ-loop
 returns-2 c = halved (c .before .before .before .before .before .before .before .before .before .before .before .pre) (c .before .loop .inv) (c .loop-test .left)
 

@@ -13,67 +13,51 @@ Inv-loop g0 g e m last most v₀ at₀ p₀ v at p = Passing g0 g e v at p
 abbrev μ-loop : tie.MeasureT-loop
 μ-loop g0 g e m last most v₀ at₀ p₀ v at p = length g - p
 
--- src/lib.rt:61:23
 sub-get : tie.Need-sub-get Inv-loop μ-loop
 sub-get c = search needs
 
--- src/lib.rt:61:9
 get-requires : tie.Need-get-requires Inv-loop μ-loop
 get-requires c κs = search needs
 
--- src/lib.rt:62:9
 larger-requires : tie.Need-larger-requires Inv-loop μ-loop
 larger-requires c κs = search needs
 
--- src/lib.rt:63:17
 shared-slice-read-v : tie.Need-shared-slice-read-v Inv-loop μ-loop
 shared-slice-read-v c = search needs
 
--- src/lib.rt:63:17
 add-v : tie.Need-add-v Inv-loop μ-loop
 add-v c = omega (arith, c .before .before .before .before .before .pre .small 0 (c .before .before .before .before .before .pre .some), c .before .before .before .before .before .pre .first-low)
 
--- src/lib.rt:63:17
 add-v-2 : tie.Need-add-v-2 Inv-loop μ-loop
 add-v-2 c = omega (arith, c .before .before .before .before .before .pre .small 0 (c .before .before .before .before .before .pre .some), c .before .before .before .before .before .pre .first-low, c .before .before .get .ensures .1)
 
--- src/lib.rt:66:5
 loop-holds : tie.Need-loop-holds Inv-loop μ-loop
 loop-holds c = pass-start (c .before .before .before .before .before .pre) _ (omega (arith, c .before .before .get .ensures .0))
 
--- src/lib.rt:67:17
 fold-cell-requires : tie.Need-fold-cell-requires Inv-loop μ-loop
 fold-cell-requires c κs = search needs
 
--- src/lib.rt:67:17
 add-t : tie.Need-add-t Inv-loop μ-loop
 add-t c = omega (arith, c .fold-cell .ensures, c .before .before .before .before .before .before .before .before .pre .small (c .before .before .loop .p) (c .before .loop-test .taken), c .before .before .before .before .larger .ensures, c .before .before .before .before .before .get .ensures .1, c .before .before .before .before .before .before .before .before .pre .first-low)
 
--- src/lib.rt:67:49
 sub-get-2 : tie.Need-sub-get-2 Inv-loop μ-loop
 sub-get-2 c = search needs
 
--- src/lib.rt:67:42
 get-requires-2 : tie.Need-get-requires-2 Inv-loop μ-loop
 get-requires-2 c κs = search needs
 
--- src/lib.rt:67:17
 add-t-2 : tie.Need-add-t-2 Inv-loop μ-loop
 add-t-2 c = omega (arith, c .before .fold-cell .ensures, c .before .before .before .before .before .before .before .before .before .pre .small (c .before .before .before .loop .p) (c .before .before .loop-test .taken), c .before .before .before .before .before .larger .ensures, c .before .before .before .before .before .before .get .ensures .1, c .get2 .ensures .1, c .before .before .before .before .before .before .before .before .before .pre .first-low)
 
--- src/lib.rt:72:9
 add-p : tie.Need-add-p Inv-loop μ-loop
 add-p c = search needs
 
--- src/lib.rt:66:5
 loop-less : tie.Need-loop-less Inv-loop μ-loop
 loop-less c = search needs
 
--- src/lib.rt:66:5
 loop-again : tie.Need-loop-again Inv-loop μ-loop
 loop-again c = elim (c .if1 .came) [ inl k ↦ pass-lower (c .before .before .before .before .before .before .before .before .before .before .pre) (c .before .before .before .before .loop .inv) (c .before .before .before .loop-test .taken) _ (omega (arith, c .before .before .fold-cell .ensures, c .before .before .before .before .before .before .larger .ensures, c .before .before .before .before .before .before .before .get .ensures .0, c .before .get2 .ensures .0)) _ _ (k .0 .taken) (k .1) (k .2) | inr k ↦ pass-on (c .before .before .before .before .before .before .before .before .before .before .pre) (c .before .before .before .before .loop .inv) (c .before .before .before .loop-test .taken) _ (omega (arith, c .before .before .fold-cell .ensures, c .before .before .before .before .before .before .larger .ensures, c .before .before .before .before .before .before .before .get .ensures .0, c .before .get2 .ensures .0)) _ _ (k .0 .left) (k .1) (k .2) ]
 
--- src/lib.rt:56:1
 returns : tie.Need-returns Inv-loop μ-loop
 returns c = pass-ends (c .before .before .before .before .before .before .before .pre) (c .before .loop .inv) (c .loop-test .left)
 

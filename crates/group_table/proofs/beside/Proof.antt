@@ -5,31 +5,24 @@ use borrow.Author.Needs.{needs}
 use Rattle.group_table.proofs.beside.Statement.{statement}
 use Rattle.group_table.proofs.beside.Tie as tie
 
--- src/lib.rt:47:9
 returns : tie.Need-returns
 returns c = no-left _ _ _ _ (c .if1 .taken)
 
--- src/lib.rt:50:9
 returns-2 : tie.Need-returns-2
 returns-2 c = no-right _ _ _ _ (c .if2 .taken)
 
--- src/lib.rt:52:12
 sub-get : tie.Need-sub-get
 sub-get c = search needs
 
--- src/lib.rt:52:5
 get-requires : tie.Need-get-requires
 get-requires c κs = search needs
 
--- src/lib.rt:52:21
 get-requires-2 : tie.Need-get-requires-2
 get-requires-2 c κs = search needs
 
--- src/lib.rt:52:5
 add-result : tie.Need-add-result
 add-result c = search needs
 
--- src/lib.rt:42:1
 returns-3 : tie.Need-returns-3
 returns-3 c = sharing _ _ _ _ _ _ (omega arith) (omega arith) (c .before .get .ensures .0) (c .get2 .ensures .0)
 

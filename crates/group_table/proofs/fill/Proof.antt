@@ -12,39 +12,30 @@ Inv-loop h w e₀ cap m p₀ e p = Tabling h w e₀ e cap p
 abbrev μ-loop : tie.MeasureT-loop
 μ-loop h w e₀ cap m p₀ e p = length h - p
 
--- src/lib.rt:139:5
 fill-top-requires : tie.Need-fill-top-requires Inv-loop μ-loop
 fill-top-requires c κs = borders (c .before .before .before .before .args .cap) (c .before .before .before .before .pre .columns) (c .before .before .before .before .pre .few) (c .before .before .before .before .pre .room)
 
--- src/lib.rt:140:5
 fill-side-requires : tie.Need-fill-side-requires Inv-loop μ-loop
 fill-side-requires c κs = (borders (c .before .before .before .before .before .before .before .before .args .cap) (c .before .before .before .before .before .before .before .before .pre .columns) (c .before .before .before .before .before .before .before .before .pre .few) (omega (arith, c .before .before .before .before .before .before .before .before .pre .room, c .before .before .before .fill-top .kept .1 .0)), corner-empty (c .before .before .before .before .before .before .before .before .args .cap) (c .before .before .before .before .before .before .before .before .pre .columns) (c .before .before .before .before .before .before .before .before .pre .few) (c .before .before .before .fill-top .last .1 .0) (c .before .before .before .fill-top .ensures))
 
--- src/lib.rt:143:5
 loop-holds : tie.Need-loop-holds Inv-loop μ-loop
 loop-holds c = table-start (c .before .before .before .before .before .before .before .before .before .before .before .args .cap) (c .before .before .before .before .before .before .before .before .before .before .before .pre .columns) (c .before .before .before .before .before .before .before .before .before .before .before .pre .few) (c .before .before .before .before .before .before .fill-top .ensures) (omega (arith, c .before .before .before .before .before .before .before .before .before .before .before .pre .room, c .before .before .before .before .before .before .fill-top .kept .1 .0, c .before .before .fill-side .kept .1 .0)) (c .before .before .fill-side .ensures)
 
--- src/lib.rt:144:9
 fill-row-requires : tie.Need-fill-row-requires Inv-loop μ-loop
 fill-row-requires c κs = row-asks (c .before .before .before .before .before .before .before .before .before .before .before .before .before .before .args .cap) (c .before .before .before .before .before .before .before .before .before .before .before .before .before .before .pre .columns) (c .before .before .before .before .before .before .before .before .before .before .before .before .before .before .pre .few) (c .before .before .loop .inv) (c .before .loop-test .taken)
 
--- src/lib.rt:145:9
 add-p : tie.Need-add-p Inv-loop μ-loop
 add-p c = omega arith
 
--- src/lib.rt:143:5
 loop-less : tie.Need-loop-less Inv-loop μ-loop
 loop-less c = omega arith
 
--- src/lib.rt:143:5
 loop-again : tie.Need-loop-again Inv-loop μ-loop
 loop-again c = row-filled (c .before .before .before .before .before .before .before .before .before .before .before .before .before .before .before .before .before .args .cap) (c .before .before .before .before .before .before .before .before .before .before .before .before .before .before .before .before .before .pre .columns) (c .before .before .before .before .before .before .before .before .before .before .before .before .before .before .before .before .before .pre .few) (c .before .before .before .before .before .loop .inv) (c .before .before .fill-row .kept .1 .1 .0) (c .before .before .before .before .loop-test .taken) (c .before .before .fill-row .ensures)
 
--- src/lib.rt:135:1
 same-length : tie.Need-same-length Inv-loop μ-loop
 same-length c = c .before .loop .inv .long ∙ c .before .before .before .before .fill-side .kept .1 .0 ∙ c .before .before .before .before .before .before .before .before .fill-top .kept .1 .0
 
--- src/lib.rt:135:1
 returns : tie.Need-returns Inv-loop μ-loop
 returns c = table-ends (c .before .before .before .before .before .before .before .before .before .before .before .before .before .args .cap) (c .before .before .before .before .before .before .before .before .before .before .before .before .before .pre .columns) (c .before .before .before .before .before .before .before .before .before .before .before .before .before .pre .few) (c .before .loop .inv) (c .loop-test .left)
 

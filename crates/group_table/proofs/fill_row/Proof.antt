@@ -10,47 +10,36 @@ Inv-loop h w e₀ p cap q₀ e q = Row h w e₀ e cap p q
 abbrev μ-loop : tie.MeasureT-loop
 μ-loop h w e₀ p cap q₀ e q = q
 
--- src/lib.rt:100:5
 loop-holds : tie.Need-loop-holds Inv-loop μ-loop
 loop-holds c = row-start (c .before .before .before .pre)
 
--- src/lib.rt:101:9
 sub-q : tie.Need-sub-q Inv-loop μ-loop
 sub-q c = search needs
 
--- src/lib.rt:102:13
 walk-requires : tie.Need-walk-requires Inv-loop μ-loop
 walk-requires c κs = row-ready (c .before .before .before .before .before .before .pre) (c .before .before .loop .inv) (c .before .loop-test .taken)
 
--- src/lib.rt:103:11
 mul-e : tie.Need-mul-e Inv-loop μ-loop
 mul-e c = search needs
 
--- src/lib.rt:103:11
 add-e : tie.Need-add-e Inv-loop μ-loop
 add-e c = omega arith
 
--- src/lib.rt:103:9
 mul-e-2 : tie.Need-mul-e-2 Inv-loop μ-loop
 mul-e-2 c = omega arith
 
--- src/lib.rt:103:9
 slice-write-e : tie.Need-slice-write-e Inv-loop μ-loop
 slice-write-e c = omega arith
 
--- src/lib.rt:100:5
 loop-less : tie.Need-loop-less Inv-loop μ-loop
 loop-less c = omega arith
 
--- src/lib.rt:100:5
 loop-again : tie.Need-loop-again Inv-loop μ-loop
 loop-again c = row-stored (c .before .before .before .before .before .before .before .pre) (c .before .before .before .loop .inv) (c .before .before .loop-test .taken) _ (c .walk .ensures)
 
--- src/lib.rt:95:1
 same-length : tie.Need-same-length Inv-loop μ-loop
 same-length c = c .before .loop .inv .long
 
--- src/lib.rt:95:1
 returns : tie.Need-returns Inv-loop μ-loop
 returns c = row-ends (c .before .loop .inv) (c .loop-test .left)
 

@@ -12,67 +12,51 @@ Inv-loop h e₀ m p₀ e p = Side h e₀ e p
 abbrev μ-loop : tie.MeasureT-loop
 μ-loop h e₀ m p₀ e p = length h - p
 
--- src/lib.rt:128:5
 loop-holds : tie.Need-loop-holds Inv-loop μ-loop
 loop-holds c = side-start (c .before .before .pre .0) (c .before .before .pre .1)
 
--- src/lib.rt:129:19
 mul-s : tie.Need-mul-s Inv-loop μ-loop
 mul-s c = search needs
 
--- src/lib.rt:129:19
 add-s : tie.Need-add-s Inv-loop μ-loop
 add-s c = search needs
 
--- src/lib.rt:129:17
 mul-s-2 : tie.Need-mul-s-2 Inv-loop μ-loop
 mul-s-2 c = search needs
 
--- src/lib.rt:129:17
 slice-read-s : tie.Need-slice-read-s Inv-loop μ-loop
 slice-read-s c = omega arith
 
--- src/lib.rt:129:33
 get-requires : tie.Need-get-requires Inv-loop μ-loop
 get-requires c κs = search needs
 
--- src/lib.rt:129:17
 add-s-2 : tie.Need-add-s-2 Inv-loop μ-loop
 add-s-2 c = omega (arith, c .get .ensures .1)
 
--- src/lib.rt:130:9
 add-p : tie.Need-add-p Inv-loop μ-loop
 add-p c = search needs
 
--- src/lib.rt:131:11
 mul-e : tie.Need-mul-e Inv-loop μ-loop
 mul-e c = search needs
 
--- src/lib.rt:131:11
 add-e : tie.Need-add-e Inv-loop μ-loop
 add-e c = search needs
 
--- src/lib.rt:131:9
 mul-e-2 : tie.Need-mul-e-2 Inv-loop μ-loop
 mul-e-2 c = search needs
 
--- src/lib.rt:131:9
 slice-write-e : tie.Need-slice-write-e Inv-loop μ-loop
 slice-write-e c = omega arith
 
--- src/lib.rt:128:5
 loop-less : tie.Need-loop-less Inv-loop μ-loop
 loop-less c = omega arith
 
--- src/lib.rt:128:5
 loop-again : tie.Need-loop-again Inv-loop μ-loop
 loop-again c = side-stored (c .before .before .before .before .before .before .pre .0) (c .before .before .before .loop .inv) (c .before .before .loop-test .taken) _ (omega (arith, c .get .ensures .0))
 
--- src/lib.rt:122:1
 same-length : tie.Need-same-length Inv-loop μ-loop
 same-length c = c .before .loop .inv .long
 
--- src/lib.rt:122:1
 returns : tie.Need-returns Inv-loop μ-loop
 returns c = side-ends (c .before .loop .inv) (c .loop-test .left)
 

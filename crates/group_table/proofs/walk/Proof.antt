@@ -12,63 +12,48 @@ Inv-loop h w e p q cap x₀ y₀ a₀ b₀ x y a b = Walking h w p q cap x y a b
 abbrev μ-loop : tie.MeasureT-loop
 μ-loop h w e p q cap x₀ y₀ a₀ b₀ x y a b = x + (length h - y)
 
--- src/lib.rt:80:5
 loop-holds : tie.Need-loop-holds Inv-loop μ-loop
 loop-holds c = walk-start (c .before .before .before .pre)
 
--- src/lib.rt:80:11
 beside-requires : tie.Need-beside-requires Inv-loop μ-loop
 beside-requires c κs = (omega (arith, c .loop .inv .left-in, c .before .before .before .before .pre .within, c .before .before .before .before .pre .asks .columns .same), omega (arith, c .loop .inv .right-in, c .before .before .before .before .pre .asks .columns .same))
 
--- src/lib.rt:81:31
 sub-get : tie.Need-sub-get Inv-loop μ-loop
 sub-get c = omega (arith, c .before .beside .ensures .left-there (c .if1 .taken))
 
--- src/lib.rt:81:24
 get-requires : tie.Need-get-requires Inv-loop μ-loop
 get-requires c κs = omega (arith, c .before .beside .ensures .left-there (c .if1 .taken), c .before .before .loop .inv .left-in, c .before .before .before .before .before .before .pre .within)
 
--- src/lib.rt:81:20
 add-left : tie.Need-add-left Inv-loop μ-loop
 add-left c = search needs
 
--- src/lib.rt:82:25
 get-requires-2 : tie.Need-get-requires-2 Inv-loop μ-loop
 get-requires-2 c κs = omega (arith, c .before .before .beside .ensures .right-there (c .before .if1 .taken), c .before .before .before .before .before .before .before .pre .asks .columns .same)
 
--- src/lib.rt:82:21
 add-right : tie.Need-add-right Inv-loop μ-loop
 add-right c = search needs
 
--- src/lib.rt:84:13
 sub-x : tie.Need-sub-x Inv-loop μ-loop
 sub-x c = omega (arith, c .before .before .before .before .beside .ensures .left-there (c .before .before .before .if1 .taken))
 
--- src/lib.rt:80:5
 loop-less : tie.Need-loop-less Inv-loop μ-loop
 loop-less c = omega (arith, c .before .before .before .before .beside .ensures .left-there (c .before .before .before .if1 .taken))
 
--- src/lib.rt:80:5
 loop-again : tie.Need-loop-again Inv-loop μ-loop
 loop-again c = to-left (c .before .before .before .before .before .before .before .before .before .pre) (c .before .before .before .before .before .loop .inv) (c .before .before .before .before .beside .ensures .left-there (c .before .before .before .if1 .taken)) (omega (arith, c .before .before .before .before .beside .ensures .right-there (c .before .before .before .if1 .taken), c .before .before .before .before .before .before .before .before .before .pre .asks .columns .same)) (c .before .before .before .before .beside .ensures .fits (c .before .before .before .if1 .taken)) _ (omega (arith, c .before .before .get .ensures .0)) (omega (arith, c .if2 .taken, c .before .get2 .ensures .0))
 
--- src/lib.rt:87:13
 add-y : tie.Need-add-y Inv-loop μ-loop
 add-y c = search needs
 
--- src/lib.rt:80:5
 loop-less-2 : tie.Need-loop-less-2 Inv-loop μ-loop
 loop-less-2 c = omega (arith, c .before .before .before .before .beside .ensures .right-there (c .before .before .before .if1 .taken), c .before .before .before .before .before .before .before .before .before .pre .asks .columns .same)
 
--- src/lib.rt:80:5
 loop-again-2 : tie.Need-loop-again-2 Inv-loop μ-loop
 loop-again-2 c = to-right (c .before .before .before .before .before .before .before .before .before .pre) (c .before .before .before .before .before .loop .inv) (c .before .before .before .before .beside .ensures .left-there (c .before .before .before .if1 .taken)) (omega (arith, c .before .before .before .before .beside .ensures .right-there (c .before .before .before .if1 .taken), c .before .before .before .before .before .before .before .before .before .pre .asks .columns .same)) (c .before .before .before .before .beside .ensures .fits (c .before .before .before .if1 .taken)) _ (omega (arith, c .before .get2 .ensures .0)) (omega (arith, c .if2 .left, c .before .before .get .ensures .0))
 
--- src/lib.rt:91:5
 ending-requires : tie.Need-ending-requires Inv-loop μ-loop
 ending-requires c κs = ending (c .before .before .before .before .before .before .pre) (c .before .before .loop .inv)
 
--- src/lib.rt:72:1
 returns : tie.Need-returns Inv-loop μ-loop
 returns c = walk-ends (c .before .before .before .before .before .before .before .pre) (c .before .before .before .loop .inv) _ (c .ending .ensures) (λ z y. c .before .before .beside .ensures .clash (c .before .if1 .left) z (omega (arith, c .before .before .before .before .before .before .before .pre .asks .columns .same)))
 

@@ -4,39 +4,30 @@ use borrow.Author.Needs.{needs}
 use Rattle.interface.proofs.choice.Statement.{statement}
 use Rattle.interface.proofs.choice.Tie as tie
 
--- src/lib.rt:136:33
 enum-told : tie.Need-enum-told
 enum-told c = search needs
 
--- src/lib.rt:137:28
 enum-known-a : tie.Need-enum-known-a
 enum-known-a c = search needs
 
--- src/lib.rt:138:37
 enum-told-2 : tie.Need-enum-told-2
 enum-told-2 c = search needs
 
--- src/lib.rt:139:32
 enum-known-b : tie.Need-enum-known-b
 enum-known-b c = search needs
 
--- src/lib.rt:140:20
 second-wins-requires : tie.Need-second-wins-requires
 second-wins-requires c κs = search needs
 
--- src/lib.rt:141:21
 returns : tie.Need-returns
 returns c = rw (c .before .before .before .before .before .before .a .given .1, c .before .before .before .b .given .1, sym (c .before .second-wins .ensures) ∙ c .if1 .taken)
 
--- src/lib.rt:132:1
 returns-2 : tie.Need-returns-2
 returns-2 c = search needs
 
--- src/lib.rt:132:1
 returns-3 : tie.Need-returns-3
 returns-3 c = search needs
 
--- src/lib.rt:132:1
 returns-4 : tie.Need-returns-4
 returns-4 c = rw (c .before .before .before .before .before .before .a .given .1, c .before .before .before .b .given .1, sym (c .before .second-wins .ensures) ∙ c .if1 .left)
 

@@ -3,23 +3,18 @@ use borrow.Author.Needs.{needs}
 use Rattle.interface.proofs.folds_choose.Statement.{statement}
 use Rattle.interface.proofs.folds_choose.Tie as tie
 
--- src/lib.rt:153:9
 kind-of-requires : tie.Need-kind-of-requires
 kind-of-requires c κs = search needs
 
--- src/lib.rt:154:12
 measure-requires : tie.Need-measure-requires
 measure-requires c κs = search needs
 
--- src/lib.rt:154:49
 measure-requires-2 : tie.Need-measure-requires-2
 measure-requires-2 c κs = search needs
 
--- src/lib.rt:154:5
 choice-requires : tie.Need-choice-requires
 choice-requires c κs = search needs
 
--- src/lib.rt:149:1
 returns : tie.Need-returns
 returns c = rw (c .choice .ensures, c .before .before .measure .ensures, c .before .measure2 .ensures, c .before .before .before .kind-of .ensures)
 

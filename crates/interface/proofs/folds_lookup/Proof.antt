@@ -9,39 +9,30 @@ use borrow.Author.Needs.{needs}
 use Rattle.interface.proofs.folds_lookup.Statement.{statement}
 use Rattle.interface.proofs.folds_lookup.Tie as tie
 
--- src/lib.rt:103:11
 check-requires : tie.Need-check-requires
 check-requires c κs = search needs
 
--- src/lib.rt:104:32
 enum-told : tie.Need-enum-told
 enum-told c = search needs
 
--- src/lib.rt:105:29
 enum-known-n : tie.Need-enum-known-n
 enum-known-n c = search needs
 
--- src/lib.rt:107:17
 returns : tie.Need-returns
 returns c = none _ _ (sym (c .before .before .before .before .check .ensures) ∙ ap countAnswer (c .before .before .n .given .1)) (c .if1 .taken)
 
--- src/lib.rt:110:17
 returns-2 : tie.Need-returns-2
 returns-2 c = past _ _ (sym (c .before .before .before .before .before .check .ensures) ∙ ap countAnswer (c .before .before .before .n .given .1)) (c .before .if1 .left) (c .if2 .taken)
 
--- src/lib.rt:112:31
 mul-t9 : tie.Need-mul-t9
 mul-t9 c = omega (arith, size _ (c .before .before .before .before .before .before .before .args .number) (sym (c .before .before .before .before .before .check .ensures) ∙ ap countAnswer (c .before .before .before .n .given .1)))
 
--- src/lib.rt:112:27
 add-t10 : tie.Need-add-t10
 add-t10 c = omega (arith, size _ (c .before .before .before .before .before .before .before .args .number) (sym (c .before .before .before .before .before .check .ensures) ∙ ap countAnswer (c .before .before .before .n .given .1)))
 
--- src/lib.rt:98:1
 returns-3 : tie.Need-returns-3
 returns-3 c = refused _ _ _ (sym (c .before .before .check .ensures) ∙ ap countAnswer (c .enum-told .given .1))
 
--- src/lib.rt:98:1
 returns-4 : tie.Need-returns-4
 returns-4 c = found _ _ (sym (c .before .before .before .before .before .check .ensures) ∙ ap countAnswer (c .before .before .before .n .given .1)) (c .before .if1 .left) (c .if2 .left)
 

@@ -3,27 +3,21 @@ use borrow.Author.Needs.{needs}
 use Rattle.interface.proofs.folds_read.Statement.{statement}
 use Rattle.interface.proofs.folds_read.Tie as tie
 
--- src/lib.rt:95:13
 read-requires : tie.Need-read-requires
 read-requires c κs = search needs
 
--- src/lib.rt:95:5
 counted-requires : tie.Need-counted-requires
 counted-requires c κs = search needs
 
--- src/lib.rt:88:1
 same-length : tie.Need-same-length
 same-length c = search needs
 
--- src/lib.rt:88:1
 same-length-2 : tie.Need-same-length-2
 same-length-2 c = search needs
 
--- src/lib.rt:88:1
 same-length-3 : tie.Need-same-length-3
 same-length-3 c = search needs
 
--- src/lib.rt:88:1
 returns : tie.Need-returns
 returns c = (rw (c .counted .ensures, c .before .before .before .before .before .before .before .read .ensures .answer), (c .before .before .before .before .before .before .before .read .ensures .heights-hold, (c .before .before .before .before .before .before .before .read .ensures .widths-hold, c .before .before .before .before .before .before .before .read .ensures .gaps-hold)))
 

@@ -4,27 +4,21 @@ use borrow.Author.Needs.{needs}
 use Rattle.interface.proofs.folds_table.Statement.{statement}
 use Rattle.interface.proofs.folds_table.Tie as tie
 
--- src/lib.rt:252:9
 kind-of-requires : tie.Need-kind-of-requires
 kind-of-requires c κs = search needs
 
--- src/lib.rt:253:12
 outline-table-requires : tie.Need-outline-table-requires
 outline-table-requires c κs = search needs
 
--- src/lib.rt:253:5
 listed-requires : tie.Need-listed-requires
 listed-requires c κs = search needs
 
--- src/lib.rt:243:1
 same-length : tie.Need-same-length
 same-length c = search needs
 
--- src/lib.rt:243:1
 same-length-2 : tie.Need-same-length-2
 same-length-2 c = search needs
 
--- src/lib.rt:243:1
 returns : tie.Need-returns
 returns c = rw (c .listed .ensures, count-said (c .before .before .before .before .before .outline-table .result)) (rw (c .before .before .before .before .before .before .before .before .kind-of .ensures) at (c .before .before .before .before .before .outline-table .ensures))
 

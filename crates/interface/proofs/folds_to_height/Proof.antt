@@ -4,27 +4,21 @@ use borrow.Author.Needs.{needs}
 use Rattle.interface.proofs.folds_to_height.Statement.{statement}
 use Rattle.interface.proofs.folds_to_height.Tie as tie
 
--- src/lib.rt:168:9
 kind-of-requires : tie.Need-kind-of-requires
 kind-of-requires c κs = search needs
 
--- src/lib.rt:169:14
 fold-to-height-requires : tie.Need-fold-to-height-requires
 fold-to-height-requires c κs = search needs
 
--- src/lib.rt:169:5
 measured-requires : tie.Need-measured-requires
 measured-requires c κs = search needs
 
--- src/lib.rt:158:1
 same-length : tie.Need-same-length
 same-length c = search needs
 
--- src/lib.rt:158:1
 same-length-2 : tie.Need-same-length-2
 same-length-2 c = search needs
 
--- src/lib.rt:158:1
 returns : tie.Need-returns
 returns c = rw (c .measured .ensures, outline-said (c .before .before .before .before .before .fold-to-height .result)) (rw (c .before .before .before .before .before .before .before .before .kind-of .ensures) at (c .before .before .before .before .before .fold-to-height .ensures))
 

@@ -4,27 +4,21 @@ use borrow.Author.Needs.{needs}
 use Rattle.interface.proofs.folds_to_width.Statement.{statement}
 use Rattle.interface.proofs.folds_to_width.Tie as tie
 
--- src/lib.rt:182:9
 kind-of-requires : tie.Need-kind-of-requires
 kind-of-requires c κs = search needs
 
--- src/lib.rt:183:14
 fold-to-width-requires : tie.Need-fold-to-width-requires
 fold-to-width-requires c κs = search needs
 
--- src/lib.rt:183:5
 measured-requires : tie.Need-measured-requires
 measured-requires c κs = search needs
 
--- src/lib.rt:172:1
 same-length : tie.Need-same-length
 same-length c = search needs
 
--- src/lib.rt:172:1
 same-length-2 : tie.Need-same-length-2
 same-length-2 c = search needs
 
--- src/lib.rt:172:1
 returns : tie.Need-returns
 returns c = rw (c .measured .ensures, outline-said (c .before .before .before .before .before .fold-to-width .result)) (rw (c .before .before .before .before .before .before .before .before .kind-of .ensures) at (c .before .before .before .before .before .fold-to-width .ensures))
 

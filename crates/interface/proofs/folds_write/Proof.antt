@@ -3,19 +3,15 @@ use borrow.Author.Needs.{needs}
 use Rattle.interface.proofs.folds_write.Statement.{statement}
 use Rattle.interface.proofs.folds_write.Tie as tie
 
--- src/lib.rt:122:13
 write-requires : tie.Need-write-requires
 write-requires c κs = search needs
 
--- src/lib.rt:122:5
 written-requires : tie.Need-written-requires
 written-requires c κs = search needs
 
--- src/lib.rt:117:1
 same-length : tie.Need-same-length
 same-length c = search needs
 
--- src/lib.rt:117:1
 returns : tie.Need-returns
 returns c = (rw (c .written .ensures, c .before .before .before .write .ensures .answer), c .before .before .before .write .ensures .holds)
 

@@ -3,23 +3,18 @@ use borrow.Author.Needs.{needs}
 use Rattle.interface.proofs.listed.Statement.{statement}
 use Rattle.interface.proofs.listed.Tie as tie
 
--- src/lib.rt:86:26
 enum-known-a : tie.Need-enum-known-a
 enum-known-a c = search needs
 
--- src/lib.rt:90:25
 enum-known-a-2 : tie.Need-enum-known-a-2
 enum-known-a-2 c = search needs
 
--- src/lib.rt:91:22
 number-requires : tie.Need-number-requires
 number-requires c κs = search needs
 
--- src/lib.rt:82:1
 returns : tie.Need-returns
 returns c = rw (c .before .a .given .1)
 
--- src/lib.rt:82:1
 returns-2 : tie.Need-returns-2
 returns-2 c = rw (c .before .before .a2 .given .1, c .number .ensures)
 

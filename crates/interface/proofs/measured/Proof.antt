@@ -3,23 +3,18 @@ use borrow.Author.Needs.{needs}
 use Rattle.interface.proofs.measured.Statement.{statement}
 use Rattle.interface.proofs.measured.Tie as tie
 
--- src/lib.rt:68:28
 enum-known-a : tie.Need-enum-known-a
 enum-known-a c = search needs
 
--- src/lib.rt:73:27
 enum-known-a-2 : tie.Need-enum-known-a-2
 enum-known-a-2 c = search needs
 
--- src/lib.rt:74:22
 number-requires : tie.Need-number-requires
 number-requires c κs = search needs
 
--- src/lib.rt:64:1
 returns : tie.Need-returns
 returns c = rw (c .before .a .given .1)
 
--- src/lib.rt:64:1
 returns-2 : tie.Need-returns-2
 returns-2 c = rw (c .before .before .a2 .given .1, c .number .ensures)
 

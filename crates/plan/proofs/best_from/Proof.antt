@@ -4,103 +4,78 @@ use borrow.Author.Needs.{needs}
 use Rattle.plan.proofs.best_from.Statement.{statement}
 use Rattle.plan.proofs.best_from.Tie as tie
 
--- src/lib.rt:261:16
 add-next : tie.Need-add-next
 add-next c = search needs
 
--- src/lib.rt:265:9
 gap-before-requires : tie.Need-gap-before-requires
 gap-before-requires c κs = search needs
 
--- src/lib.rt:266:9
 mul-first-group : tie.Need-mul-first-group
 mul-first-group c = search needs
 
--- src/lib.rt:266:9
 sub-first-group : tie.Need-sub-first-group
 sub-first-group c = search needs
 
--- src/lib.rt:266:9
 part-first-group-start : tie.Need-part-first-group-start
 part-first-group-start c = search needs
 
--- src/lib.rt:266:9
 part-first-group-end : tie.Need-part-first-group-end
 part-first-group-end c = search needs
 
--- src/lib.rt:267:9
 mul-first-group-2 : tie.Need-mul-first-group-2
 mul-first-group-2 c = search needs
 
--- src/lib.rt:267:9
 sub-first-group-2 : tie.Need-sub-first-group-2
 sub-first-group-2 c = search needs
 
--- src/lib.rt:267:9
 part-first-group-start-2 : tie.Need-part-first-group-start-2
 part-first-group-start-2 c = search needs
 
--- src/lib.rt:267:9
 part-first-group-end-2 : tie.Need-part-first-group-end-2
 part-first-group-end-2 c = search needs
 
--- src/lib.rt:268:9
 mul-first-group-3 : tie.Need-mul-first-group-3
 mul-first-group-3 c = search needs
 
--- src/lib.rt:268:9
 sub-first-group-3 : tie.Need-sub-first-group-3
 sub-first-group-3 c = search needs
 
--- src/lib.rt:268:9
 part-first-group-start-3 : tie.Need-part-first-group-start-3
 part-first-group-start-3 c = search needs
 
--- src/lib.rt:268:9
 part-first-group-end-3 : tie.Need-part-first-group-end-3
 part-first-group-end-3 c = search needs
 
--- src/lib.rt:269:9
 mul-first-group-4 : tie.Need-mul-first-group-4
 mul-first-group-4 c = search needs
 
--- src/lib.rt:269:9
 sub-first-group-4 : tie.Need-sub-first-group-4
 sub-first-group-4 c = search needs
 
--- src/lib.rt:269:9
 part-first-group-start-4 : tie.Need-part-first-group-start-4
 part-first-group-start-4 c = search needs
 
--- src/lib.rt:269:9
 part-first-group-end-4 : tie.Need-part-first-group-end-4
 part-first-group-end-4 c = search needs
 
--- src/lib.rt:270:9
 mul-first-group-5 : tie.Need-mul-first-group-5
 mul-first-group-5 c = search needs
 
--- src/lib.rt:270:9
 sub-first-group-5 : tie.Need-sub-first-group-5
 sub-first-group-5 c = search needs
 
--- src/lib.rt:270:9
 part-first-group-start-5 : tie.Need-part-first-group-start-5
 part-first-group-start-5 c = search needs
 
--- src/lib.rt:270:9
 part-first-group-end-5 : tie.Need-part-first-group-end-5
 part-first-group-end-5 c = search needs
 
--- src/lib.rt:262:5
 first-group-requires : tie.Need-first-group-requires
 first-group-requires c κs = first-asks (c .before .before .before .before .before .before .before .before .before .before .before .before .before .pre) _ (c .before .before .before .before .before .before .gap-before .ensures)
 
--- src/lib.rt:247:1
 same-length : tie.Need-same-length
 same-length c = search needs
 
--- src/lib.rt:247:1
 returns : tie.Need-returns
 returns c = first-is (c .before .before .before .before .before .before .before .before .before .before .before .before .before .before .before .before .pre) _ (c .before .before .before .before .before .before .before .before .before .gap-before .ensures) _ (c .before .before .first-group .ensures)
 

@@ -15,79 +15,60 @@ Inv-loop kind limit g0 h w g widths heights work₀ n most best₀ tall₀ wides
 abbrev μ-loop : tie.MeasureT-loop
 μ-loop kind limit g0 h w g widths heights work₀ n most best₀ tall₀ widest₀ k₀ work best tall widest k = length h - k
 
--- src/lib.rt:228:9
 most-rows-requires : tie.Need-most-rows-requires Inv-loop μ-loop
 most-rows-requires c κs = search needs
 
--- src/lib.rt:237:5
 loop-holds : tie.Need-loop-holds Inv-loop μ-loop
 loop-holds c = (scan-start (c .before .before .before .before .before .before .before .pre), refl)
 
--- src/lib.rt:238:22
 mul-wide : tie.Need-mul-wide Inv-loop μ-loop
 mul-wide c = search needs
 
--- src/lib.rt:238:22
 shared-slice-read-wide : tie.Need-shared-slice-read-wide Inv-loop μ-loop
 shared-slice-read-wide c = search needs
 
--- src/lib.rt:238:17
 wide-requires : tie.Need-wide-requires Inv-loop μ-loop
 wide-requires c κs = search needs
 
--- src/lib.rt:238:9
 add-tall : tie.Need-add-tall Inv-loop μ-loop
 add-tall c = search needs
 
--- src/lib.rt:240:13
 same-length : tie.Need-same-length Inv-loop μ-loop
 same-length c = c .before .before .before .before .loop .inv .1
 
--- src/lib.rt:240:13
 returns : tie.Need-returns Inv-loop μ-loop
 returns c = scan-stop (c .before .before .before .before .before .before .before .before .before .before .before .before .pre) (c .before .before .before .before .loop .inv .0) (c .before .before .before .loop-test .taken) _ _ (c .before .wide .ensures .0) (c .before .before .before .before .before .most-rows .ensures .0) (c .if1 .taken)
 
--- src/lib.rt:242:38
 mul-wide-2 : tie.Need-mul-wide-2 Inv-loop μ-loop
 mul-wide-2 c = search needs
 
--- src/lib.rt:242:38
 shared-slice-read-wide-2 : tie.Need-shared-slice-read-wide-2 Inv-loop μ-loop
 shared-slice-read-wide-2 c = search needs
 
--- src/lib.rt:242:33
 wide-requires-2 : tie.Need-wide-requires-2 Inv-loop μ-loop
 wide-requires-2 c κs = search needs
 
--- src/lib.rt:242:9
 larger-requires : tie.Need-larger-requires Inv-loop μ-loop
 larger-requires c κs = search needs
 
--- src/lib.rt:243:13
 rest-at-requires : tie.Need-rest-at-requires Inv-loop μ-loop
 rest-at-requires c κs = search needs
 
--- src/lib.rt:244:9
 add-k : tie.Need-add-k Inv-loop μ-loop
 add-k c = search needs
 
--- src/lib.rt:245:9
 try-first-requires : tie.Need-try-first-requires Inv-loop μ-loop
 try-first-requires c κs = (group-asks (c .before .before .before .before .before .before .before .before .before .before .before .before .before .before .before .before .before .pre) (c .before .before .before .before .before .before .before .before .before .loop .inv .0) (c .before .before .before .before .before .before .before .before .loop-test .taken) _ _ (c .before .before .before .before .before .before .wide .ensures .0) (c .before .before .before .before .before .before .before .before .before .before .most-rows .ensures .0) (c .before .before .before .before .before .if1 .left) (c .before .before .before .before .before .before .before .before .before .before .most-rows .ensures .1) _ _ (c .before .before .before .wide2 .ensures .0) (c .before .before .larger .ensures) _ (c .before .rest-at .ensures) (c .before .before .before .before .before .before .before .before .before .loop .work) (c .before .before .before .before .before .before .before .before .before .loop .inv .1), (omega (arith, c .before .before .before .before .before .before .before .before .loop-test .taken), omega (arith, c .before .before .before .before .before .before .before .before .loop-test .taken, c .before .before .before .before .before .before .before .before .before .before .before .before .before .before .before .before .before .pre .lists .same-widths), omega (arith, c .before .before .before .before .before .before .before .before .loop-test .taken, c .before .before .before .before .before .before .before .before .before .before .before .before .before .before .before .before .before .pre .lists .same-gaps)))
 
--- src/lib.rt:237:5
 loop-less : tie.Need-loop-less Inv-loop μ-loop
 loop-less c = search needs
 
--- src/lib.rt:237:5
 loop-again : tie.Need-loop-again Inv-loop μ-loop
 loop-again c = (scan-more (c .before .before .before .before .before .before .before .before .before .before .before .before .before .before .before .before .before .before .before .before .pre) (c .before .before .before .before .before .before .before .before .before .before .before .before .loop .inv .0) (c .before .before .before .before .before .before .before .before .before .before .before .loop-test .taken) _ _ (c .before .before .before .before .before .before .before .before .before .wide .ensures .0) (c .before .before .before .before .before .before .before .before .before .before .before .before .before .most-rows .ensures .0) (c .before .before .before .before .before .before .before .before .if1 .left) (c .before .before .before .before .before .before .before .before .before .before .before .before .before .most-rows .ensures .1) _ _ (c .before .before .before .before .before .before .wide2 .ensures .0) (c .before .before .before .before .before .larger .ensures) _ (c .before .before .before .before .rest-at .ensures) _ (c .before .before .try-first .ensures), omega (arith, c .before .before .before .before .before .before .before .before .before .before .before .before .loop .inv .1))
 
--- src/lib.rt:213:1
 same-length-2 : tie.Need-same-length-2 Inv-loop μ-loop
 same-length-2 c = c .before .loop .inv .1
 
--- src/lib.rt:213:1
 returns-2 : tie.Need-returns-2 Inv-loop μ-loop
 returns-2 c = scan-done (c .before .before .before .before .before .before .before .before .before .pre) (c .before .loop .inv .0) (c .loop-test .left)
 

@@ -2,15 +2,12 @@ use borrow.Author.Tests.{lt-ltb, le-ltb, eq-eqb, ne-eqb}
 use Rattle.plan.proofs.is_better.Statement.{statement}
 use Rattle.plan.proofs.is_better.Tie as tie
 
--- src/lib.rt:56:9
 returns : tie.Need-returns
 returns c = rw (lt-ltb _ _ (c .if1 .taken))
 
--- src/lib.rt:59:9
 returns-2 : tie.Need-returns-2
 returns-2 c = rw (le-ltb (c .before .before .before .before .before .before .before .before .args .a .width) (c .before .before .before .before .before .before .before .before .args .b .width) (c .before .before .before .before .before .if1 .left), eq-eqb _ _ (c .before .before .if2 .taken))
 
--- src/lib.rt:52:1
 returns-3 : tie.Need-returns-3
 returns-3 c = rw (le-ltb (c .before .before .before .before .before .before .args .a .width) (c .before .before .before .before .before .before .args .b .width) (c .before .before .before .if1 .left), ne-eqb _ _ (c .if2 .left))
 

@@ -3,15 +3,12 @@ use borrow.Author.Needs.{needs}
 use Rattle.plan.proofs.pick.Statement.{statement}
 use Rattle.plan.proofs.pick.Tie as tie
 
--- src/lib.rt:68:8
 is-better-requires : tie.Need-is-better-requires
 is-better-requires c κs = search needs
 
--- src/lib.rt:69:9
 returns : tie.Need-returns
 returns c = rw (← c .before .is-better .ensures, c .if1 .taken)
 
--- src/lib.rt:65:1
 returns-2 : tie.Need-returns-2
 returns-2 c = rw (← c .before .is-better .ensures, c .if1 .left)
 

@@ -18,91 +18,69 @@ Inv-loop kind limit h w g widths₀ heights₀ ends₀ work₀ i₀ widths heigh
 abbrev μ-loop : tie.MeasureT-loop
 μ-loop kind limit h w g widths₀ heights₀ ends₀ work₀ i₀ widths heights ends work i = i
 
--- src/lib.rt:291:5
 mul-widths : tie.Need-mul-widths Inv-loop μ-loop
 mul-widths c = search needs
 
--- src/lib.rt:291:5
 slice-write-widths : tie.Need-slice-write-widths Inv-loop μ-loop
 slice-write-widths c = search needs
 
--- src/lib.rt:292:5
 mul-heights : tie.Need-mul-heights Inv-loop μ-loop
 mul-heights c = search needs
 
--- src/lib.rt:292:5
 slice-write-heights : tie.Need-slice-write-heights Inv-loop μ-loop
 slice-write-heights c = search needs
 
--- src/lib.rt:293:5
 mul-ends : tie.Need-mul-ends Inv-loop μ-loop
 mul-ends c = search needs
 
--- src/lib.rt:293:5
 slice-write-ends : tie.Need-slice-write-ends Inv-loop μ-loop
 slice-write-ends c = search needs
 
--- src/lib.rt:294:5
 loop-holds : tie.Need-loop-holds Inv-loop μ-loop
 loop-holds c = (plan-start (c .before .before .before .before .before .before .before .pre), omega arith, refl, refl, refl, refl)
 
--- src/lib.rt:295:9
 sub-i : tie.Need-sub-i Inv-loop μ-loop
 sub-i c = search needs
 
--- src/lib.rt:296:13
 best-from-requires : tie.Need-best-from-requires Inv-loop μ-loop
 best-from-requires c κs = from-asks (c .before .before .before .before .before .before .before .before .before .before .before .before .pre) (c .before .before .before .before .loop .inv .0) (c .before .before .before .before .loop .inv .2) (c .before .before .before .before .loop .inv .3) (c .before .before .before .before .loop .inv .4) (c .before .before .before .before .loop .i - 1) (omega arith) (c .before .before .before .before .loop .inv .1) (c .before .before .before .before .loop .work) (c .before .before .before .before .loop .inv .5)
 
--- src/lib.rt:297:9
 mul-widths-2 : tie.Need-mul-widths-2 Inv-loop μ-loop
 mul-widths-2 c = search needs
 
--- src/lib.rt:297:9
 slice-write-widths-2 : tie.Need-slice-write-widths-2 Inv-loop μ-loop
 slice-write-widths-2 c = omega (arith, c .before .before .before .before .before .before .loop-test .taken, c .before .before .before .before .before .before .before .loop .inv .1, c .before .before .before .before .before .before .before .loop .inv .2, length-set (now (c .before .before .before .before .before .before .before .before .before .before .before .before .before .before .before .args .widths)) (length (now (c .before .before .before .before .before .before .before .before .before .before .before .before .before .before .before .args .h))) 0, c .before .before .before .before .before .before .before .before .before .before .before .before .before .before .before .pre .widths-long)
 
--- src/lib.rt:298:9
 mul-heights-2 : tie.Need-mul-heights-2 Inv-loop μ-loop
 mul-heights-2 c = search needs
 
--- src/lib.rt:298:9
 slice-write-heights-2 : tie.Need-slice-write-heights-2 Inv-loop μ-loop
 slice-write-heights-2 c = omega (arith, c .before .before .before .before .before .before .loop-test .taken, c .before .before .before .before .before .before .before .loop .inv .1, c .before .before .before .before .before .before .before .loop .inv .3, length-set (now (c .before .before .before .before .before .before .before .before .before .before .before .before .before .before .before .args .heights)) (length (now (c .before .before .before .before .before .before .before .before .before .before .before .before .before .before .before .args .h))) 0, c .before .before .before .before .before .before .before .before .before .before .before .before .before .before .before .pre .heights-long)
 
--- src/lib.rt:299:9
 mul-ends-2 : tie.Need-mul-ends-2 Inv-loop μ-loop
 mul-ends-2 c = search needs
 
--- src/lib.rt:299:9
 slice-write-ends-2 : tie.Need-slice-write-ends-2 Inv-loop μ-loop
 slice-write-ends-2 c = omega (arith, c .before .before .before .before .before .before .loop-test .taken, c .before .before .before .before .before .before .before .loop .inv .1, c .before .before .before .before .before .before .before .loop .inv .4, length-set (now (c .before .before .before .before .before .before .before .before .before .before .before .before .before .before .before .args .ends)) (length (now (c .before .before .before .before .before .before .before .before .before .before .before .before .before .before .before .args .h))) 0, c .before .before .before .before .before .before .before .before .before .before .before .before .before .before .before .pre .ends-long)
 
--- src/lib.rt:294:5
 loop-less : tie.Need-loop-less Inv-loop μ-loop
 loop-less c = search needs
 
--- src/lib.rt:294:5
 loop-again : tie.Need-loop-again Inv-loop μ-loop
 loop-again c = (plan-more (c .before .before .before .before .before .before .before .before .before .before .before .before .before .before .before .pre) (c .before .before .before .before .before .before .before .loop .inv .0) (c .before .before .before .before .before .before .before .loop .inv .2) (c .before .before .before .before .before .before .before .loop .inv .3) (c .before .before .before .before .before .before .before .loop .inv .4) (c .before .before .before .before .before .before .before .loop .i - 1) (omega arith) (c .before .before .before .before .before .before .before .loop .inv .1) _ (c .before .before .best-from .ensures), omega arith, length-set (c .before .before .before .before .before .before .before .loop .widths) (c .before .before .before .before .before .before .before .loop .i - 1) (c .before .before .best-from .result .width) ∙ c .before .before .before .before .before .before .before .loop .inv .2, length-set (c .before .before .before .before .before .before .before .loop .heights) (c .before .before .before .before .before .before .before .loop .i - 1) (c .before .before .best-from .result .height) ∙ c .before .before .before .before .before .before .before .loop .inv .3, length-set (c .before .before .before .before .before .before .before .loop .ends) (c .before .before .before .before .before .before .before .loop .i - 1) (c .before .before .best-from .result .end) ∙ c .before .before .before .before .before .before .before .loop .inv .4, omega (arith, c .before .before .before .before .before .before .before .loop .inv .5))
 
--- src/lib.rt:276:1
 same-length : tie.Need-same-length Inv-loop μ-loop
 same-length c = c .before .loop .inv .2 ∙ length-set (now (c .before .before .before .before .before .before .before .before .before .args .widths)) (length (now (c .before .before .before .before .before .before .before .before .before .args .h))) 0
 
--- src/lib.rt:276:1
 same-length-2 : tie.Need-same-length-2 Inv-loop μ-loop
 same-length-2 c = c .before .loop .inv .3 ∙ length-set (now (c .before .before .before .before .before .before .before .before .before .args .heights)) (length (now (c .before .before .before .before .before .before .before .before .before .args .h))) 0
 
--- src/lib.rt:276:1
 same-length-3 : tie.Need-same-length-3 Inv-loop μ-loop
 same-length-3 c = c .before .loop .inv .4 ∙ length-set (now (c .before .before .before .before .before .before .before .before .before .args .ends)) (length (now (c .before .before .before .before .before .before .before .before .before .args .h))) 0
 
--- src/lib.rt:276:1
 same-length-4 : tie.Need-same-length-4 Inv-loop μ-loop
 same-length-4 c = c .before .loop .inv .5
 
--- src/lib.rt:276:1
 returns : tie.Need-returns Inv-loop μ-loop
 returns c = plan-done (c .before .before .before .before .before .before .before .before .before .pre) (c .before .loop .inv .0) (c .before .loop .inv .2) (c .before .loop .inv .3) (c .before .loop .inv .4) (omega arith)
 

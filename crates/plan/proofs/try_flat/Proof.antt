@@ -5,55 +5,42 @@ use borrow.Author.Needs.{needs}
 use Rattle.plan.proofs.try_flat.Statement.{statement}
 use Rattle.plan.proofs.try_flat.Tie as tie
 
--- src/lib.rt:102:18
 add-height : tie.Need-add-height
 add-height c = search needs
 
--- src/lib.rt:102:37
 sub-wide : tie.Need-sub-wide
 sub-wide c = search needs
 
--- src/lib.rt:102:35
 mul-wide : tie.Need-mul-wide
 mul-wide c = search needs
 
--- src/lib.rt:102:35
 shared-slice-read-wide : tie.Need-shared-slice-read-wide
 shared-slice-read-wide c = search needs
 
--- src/lib.rt:102:30
 wide-requires : tie.Need-wide-requires
 wide-requires c κs = search needs
 
--- src/lib.rt:102:18
 add-height-2 : tie.Need-add-height-2
 add-height-2 c = search needs
 
--- src/lib.rt:104:9
 returns : tie.Need-returns
 returns c = flat-high (c .before .before .before .before .before .before .pre .0) _ _ (c .before .before .before .before .before .before .pre .1) (c .before .wide .ensures .0) (c .if1 .taken)
 
--- src/lib.rt:107:9
 returns-2 : tie.Need-returns-2
 returns-2 c = rest-none (c .before .before .before .before .before .before .before .before .pre .0) (c .if2 .taken)
 
--- src/lib.rt:111:20
 add-t12 : tie.Need-add-t12
 add-t12 c = omega (arith, wide-4000 (c .before .before .before .before .before .before .before .before .before .pre .0))
 
--- src/lib.rt:112:21
 larger-requires : tie.Need-larger-requires
 larger-requires c κs = search needs
 
--- src/lib.rt:113:18
 count-requires : tie.Need-count-requires
 count-requires c κs = search needs
 
--- src/lib.rt:109:5
 pick-requires : tie.Need-pick-requires
 pick-requires c κs = search needs
 
--- src/lib.rt:87:1
 returns-3 : tie.Need-returns-3
 returns-3 c = flat-tried (c .before .before .before .before .before .before .before .before .before .before .before .before .pre .0) _ _ (c .before .before .before .before .before .before .before .before .before .before .before .before .pre .1) (c .before .before .before .before .before .before .before .wide .ensures .0) _ _ _ (c .before .before .before .before .before .before .if1 .left) (c .before .before .before .before .if2 .left) (c .before .before .larger .ensures) (c .before .count .ensures) (c .pick .ensures)
 

@@ -5,63 +5,48 @@ use borrow.Author.Needs.{needs}
 use Rattle.plan.proofs.try_folds.Statement.{statement}
 use Rattle.plan.proofs.try_folds.Tie as tie
 
--- src/lib.rt:135:9
 returns : tie.Need-returns
 returns c = rest-none (c .before .before .before .before .before .before .pre .0) (c .if1 .taken)
 
--- src/lib.rt:137:21
 add-if2 : tie.Need-add-if2
 add-if2 c = omega (arith, wide-4000 (c .before .before .before .before .before .before .before .pre .0))
 
--- src/lib.rt:138:9
 returns-2 : tie.Need-returns-2
 returns-2 c = folds-wide (c .before .before .before .before .before .before .before .before .before .pre .0) (c .if2 .taken)
 
--- src/lib.rt:140:23
 mul-lesser : tie.Need-mul-lesser
 mul-lesser c = omega (arith, wide-4000 (c .before .before .before .before .before .before .before .before .before .pre .0))
 
--- src/lib.rt:140:35
 sub-lesser : tie.Need-sub-lesser
 sub-lesser c = search needs
 
--- src/lib.rt:140:9
 lesser-requires : tie.Need-lesser-requires
 lesser-requires c κs = search needs
 
--- src/lib.rt:141:9
 narrowest-requires : tie.Need-narrowest-requires
 narrowest-requires c κs = narrow-asks (c .before .before .before .before .before .before .before .before .before .before .before .before .before .pre .0) _ _ (c .before .before .before .before .before .before .before .before .before .before .before .before .before .pre .1) (omega (arith, c .before .lesser .ensures)) (omega (arith, c .before .lesser .ensures))
 
--- src/lib.rt:143:9
 same-length : tie.Need-same-length
 same-length c = search needs
 
--- src/lib.rt:143:9
 returns-3 : tie.Need-returns-3
 returns-3 c = folds-none (c .before .before .before .before .before .before .before .before .before .before .before .before .before .before .before .before .before .before .pre .0) _ _ _ (c .before .before .before .before .before .before .before .before .before .before .before .before .if1 .left) (c .before .before .before .before .before .before .before .before .before .if2 .left) (c .before .before .before .before .before .before .lesser .ensures) (c .before .before .before .before .narrowest .ensures) (c .if3 .taken)
 
--- src/lib.rt:147:20
 add-t14 : tie.Need-add-t14
 add-t14 c = search needs
 
--- src/lib.rt:148:21
 larger-requires : tie.Need-larger-requires
 larger-requires c κs = search needs
 
--- src/lib.rt:149:18
 count-requires : tie.Need-count-requires
 count-requires c κs = omega (arith, c .before .before .before .before .before .before .before .before .before .before .before .before .before .before .before .before .before .before .before .before .before .pre .0 .lists .few)
 
--- src/lib.rt:145:5
 pick-requires : tie.Need-pick-requires
 pick-requires c κs = search needs
 
--- src/lib.rt:120:1
 same-length-2 : tie.Need-same-length-2
 same-length-2 c = search needs
 
--- src/lib.rt:120:1
 returns-4 : tie.Need-returns-4
 returns-4 c = folds-tried (c .before .before .before .before .before .before .before .before .before .before .before .before .before .before .before .before .before .before .before .before .before .before .before .pre .0) _ _ _ (c .before .before .before .before .before .before .before .before .before .before .before .before .before .before .before .before .before .if1 .left) (c .before .before .before .before .before .before .before .before .before .before .before .before .before .before .if2 .left) (c .before .before .before .before .before .before .before .before .before .before .before .lesser .ensures) (c .before .before .before .before .before .before .before .before .before .narrowest .ensures) _ _ _ (c .before .before .before .before .before .if3 .left) (c .before .before .larger .ensures) (c .before .count .ensures) (c .pick .ensures)
 

@@ -3,31 +3,24 @@ use borrow.Author.Needs.{needs}
 use Rattle.plan.proofs.try_group.Statement.{statement}
 use Rattle.plan.proofs.try_group.Tie as tie
 
--- src/lib.rt:172:24
 enum-told : tie.Need-enum-told
 enum-told c = search needs
 
--- src/lib.rt:172:24
 try-flat-requires : tie.Need-try-flat-requires
 try-flat-requires c κs = (rw (c .enum-told .given .1) at (c .before .before .before .before .before .before .pre .0), c .before .before .before .before .before .before .pre .1, c .before .before .before .before .before .before .pre .2)
 
--- src/lib.rt:176:53
 enum-told-2 : tie.Need-enum-told-2
 enum-told-2 c = search needs
 
--- src/lib.rt:175:25
 try-folds-requires : tie.Need-try-folds-requires
 try-folds-requires c κs = (rw (c .before .enum-told2 .given .1) at (c .before .before .before .before .before .before .before .pre .0), c .before .before .before .before .before .before .before .pre .3)
 
--- src/lib.rt:155:1
 returns : tie.Need-returns
 returns c = rw (c .before .enum-told .given .1) (c .try-flat .ensures)
 
--- src/lib.rt:155:1
 same-length : tie.Need-same-length
 same-length c = search needs
 
--- src/lib.rt:155:1
 returns-2 : tie.Need-returns-2
 returns-2 c = rw (c .before .before .before .before .enum-told2 .given .1) (c .before .before .try-folds .ensures)
 

@@ -6,27 +6,21 @@ use borrow.Author.Needs.{needs}
 use Rattle.stack.proofs.check.Statement.{statement}
 use Rattle.stack.proofs.check.Tie as tie
 
--- src/lib.rt:246:11
 header-requires : tie.Need-header-requires
 header-requires c κs = search needs
 
--- src/lib.rt:247:26
 enum-known-k : tie.Need-enum-known-k
 enum-known-k c = search needs
 
--- src/lib.rt:248:29
 enum-known-n : tie.Need-enum-known-n
 enum-known-n c = search needs
 
--- src/lib.rt:248:35
 check-components-requires : tie.Need-check-components-requires
 check-components-requires c κs = omega (arith, header-is _ _ (sym (c .before .before .before .header .ensures) ∙ ap countAnswer (c .before .n .given .1)) .size)
 
--- src/lib.rt:243:1
 returns : tie.Need-returns
 returns c = rw (← c .before .before .before .header .ensures, c .before .k .given .1)
 
--- src/lib.rt:243:1
 returns-2 : tie.Need-returns-2
 returns-2 c = rw (← c .before .before .before .before .header .ensures, c .before .before .n .given .1) (c .check-components .ensures)
 

@@ -7,39 +7,31 @@ use borrow.Author.Needs.{needs}
 use Rattle.stack.proofs.check_components.Statement.{statement}
 use Rattle.stack.proofs.check_components.Tie as tie
 
--- src/lib.rt:229:9
 returns : tie.Need-returns
 unfolding stackOf
 returns c = rw (tabulate-length, eq-eqb _ _ (c .if1 .taken))
 
--- src/lib.rt:231:8
 most-requires : tie.Need-most-requires
 most-requires c κs = search needs
 
--- src/lib.rt:232:9
 returns-2 : tie.Need-returns-2
 unfolding stackOf
 returns-2 c = rw (tabulate-length, ne-eqb _ _ (c .before .before .if1 .left), ← c .before .most .ensures, lt-ltb _ _ (c .if2 .taken))
 
--- src/lib.rt:234:9
 file-stands-requires : tie.Need-file-stands-requires
 file-stands-requires c κs = omega (arith, c .before .most .ensures, most-256 (c .before .before .before .before .args .kind))
 
--- src/lib.rt:235:9
 returns-3 : tie.Need-returns-3
 unfolding stackOf
 returns-3 c = rw (tabulate-length, ne-eqb _ _ (c .before .before .before .before .if1 .left), ← c .before .before .before .most .ensures, le-ltb _ _ (c .before .before .if2 .left), ← c .before .file-stands .ensures, c .if3 .taken)
 
--- src/lib.rt:237:9
 file-stands-requires-2 : tie.Need-file-stands-requires-2
 file-stands-requires-2 c κs = omega (arith, c .before .before .before .most .ensures, most-256 (c .before .before .before .before .before .before .args .kind))
 
--- src/lib.rt:238:9
 returns-4 : tie.Need-returns-4
 unfolding stackOf
 returns-4 c = rw (tabulate-length, ne-eqb _ _ (c .before .before .before .before .before .before .if1 .left), ← c .before .before .before .before .before .most .ensures, le-ltb _ _ (c .before .before .before .before .if2 .left), ← c .before .before .before .file-stands .ensures, c .before .before .if3 .left, ← c .before .file-stands2 .ensures, c .if4 .taken)
 
--- src/lib.rt:224:1
 returns-5 : tie.Need-returns-5
 unfolding stackOf
 returns-5 c = rw (tabulate-length, ne-eqb _ _ (c .before .before .before .before .before .before .if1 .left), ← c .before .before .before .before .before .most .ensures, le-ltb _ _ (c .before .before .before .before .if2 .left), ← c .before .before .before .file-stands .ensures, c .before .before .if3 .left, ← c .before .file-stands2 .ensures, c .if4 .left, tabulate-length)

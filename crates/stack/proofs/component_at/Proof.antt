@@ -2,35 +2,27 @@ use borrow.Author.Needs.{needs}
 use Rattle.stack.proofs.component_at.Statement.{statement}
 use Rattle.stack.proofs.component_at.Tie as tie
 
--- src/lib.rt:198:18
 mul-at : tie.Need-mul-at
 mul-at c = search needs
 
--- src/lib.rt:198:14
 add-at : tie.Need-add-at
 add-at c = search needs
 
--- src/lib.rt:200:22
 word-at-requires : tie.Need-word-at-requires
 word-at-requires c κs = search needs
 
--- src/lib.rt:201:37
 add-word-at : tie.Need-add-word-at
 add-word-at c = search needs
 
--- src/lib.rt:201:23
 word-at-requires-2 : tie.Need-word-at-requires-2
 word-at-requires-2 c κs = search needs
 
--- src/lib.rt:202:33
 add-word-at-2 : tie.Need-add-word-at-2
 add-word-at-2 c = search needs
 
--- src/lib.rt:202:19
 word-at-requires-3 : tie.Need-word-at-requires-3
 word-at-requires-3 c κs = search needs
 
--- src/lib.rt:194:1
 returns : tie.Need-returns
 returns c = cc
 

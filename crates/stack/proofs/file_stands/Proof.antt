@@ -17,44 +17,34 @@ Inv-loop file n rule p₀ p = (p .before ≤ n) × (every (ruleOf rule) (drop (p
 abbrev μ-loop : tie.MeasureT-loop
 μ-loop file n rule p₀ p = n - p .before
 
--- src/lib.rt:211:9
 first-requires : tie.Need-first-requires Inv-loop μ-loop
 first-requires c κs = omega arith
 
--- src/lib.rt:212:5
 loop-holds : tie.Need-loop-holds Inv-loop μ-loop
 loop-holds c = let e = c .first .ensures in (omega arith, rw e)
 
--- src/lib.rt:213:13
 component-at-requires : tie.Need-component-at-requires Inv-loop μ-loop
 component-at-requires c κs = omega arith
 
--- src/lib.rt:214:20
 add-last : tie.Need-add-last Inv-loop μ-loop
 add-last c = omega arith
 
--- src/lib.rt:215:13
 stands-requires : tie.Need-stands-requires Inv-loop μ-loop
 stands-requires c κs = omega arith
 
--- src/lib.rt:216:13
 returns : tie.Need-returns Inv-loop μ-loop
 returns c = every-broken _ _ _ _ (c .before .before .before .before .if1 .taken) (rw (← c .before .before .before .component-at .ensures) (sym (c .before .stands .ensures) ∙ not-true _ (c .if2 .taken))) (c .before .before .before .before .before .before .loop .inv .1)
 
--- src/lib.rt:218:9
 next-requires : tie.Need-next-requires Inv-loop μ-loop
 next-requires c κs = omega arith
 
--- src/lib.rt:212:5
 loop-less : tie.Need-loop-less Inv-loop μ-loop
 loop-less c = omega (arith, c .next .ensures ∙ moves (c .before .before .before .before .before .before .before .loop .p .before) (omega arith))
 
--- src/lib.rt:212:5
 loop-again : tie.Need-loop-again Inv-loop μ-loop
 loop-again c = let m = c .next .ensures ∙ moves (c .before .before .before .before .before .before .before .loop .p .before) (omega arith) in
     (omega arith, rw m (every-kept _ _ _ _ (c .before .before .before .before .before .if1 .taken) (rw (← c .before .before .before .before .component-at .ensures) (sym (c .before .before .stands .ensures) ∙ not-false _ (c .before .if2 .left))) (c .before .before .before .before .before .before .before .loop .inv .1)))
 
--- src/lib.rt:207:1
 returns-2 : tie.Need-returns-2 Inv-loop μ-loop
 returns-2 c = every-done _ _ _ _ (c .if1 .left) (c .before .before .loop .inv .1)
 

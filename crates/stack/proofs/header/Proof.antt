@@ -4,51 +4,40 @@ use borrow.Author.Needs.{needs}
 use Rattle.stack.proofs.header.Statement.{statement}
 use Rattle.stack.proofs.header.Tie as tie
 
--- src/lib.rt:137:9
 returns : tie.Need-returns
 unfolding headerOf
 returns c = rw (lt-ltb _ _ (c .if1 .taken))
 
--- src/lib.rt:139:9
 letters-stand-requires : tie.Need-letters-stand-requires
 letters-stand-requires c κs = search needs
 
--- src/lib.rt:140:9
 returns-2 : tie.Need-returns-2
 unfolding headerOf
 returns-2 c = rw (le-ltb _ _ (c .before .before .if1 .left), ← c .before .letters-stand .ensures, c .if2 .taken)
 
--- src/lib.rt:142:8
 word-at-requires : tie.Need-word-at-requires
 word-at-requires c κs = search needs
 
--- src/lib.rt:143:9
 returns-3 : tie.Need-returns-3
 unfolding headerOf
 returns-3 c = rw (le-ltb _ _ (c .before .before .before .before .if1 .left), ← c .before .before .before .letters-stand .ensures, c .before .before .if2 .left, ← c .before .word-at .ensures, ne-eqb _ _ (c .if3 .taken))
 
--- src/lib.rt:145:13
 word-at-requires-2 : tie.Need-word-at-requires-2
 word-at-requires-2 c κs = search needs
 
--- src/lib.rt:145:13
 cast-n : tie.Need-cast-n
 cast-n c = search needs
 
--- src/lib.rt:146:26
 mul-if4 : tie.Need-mul-if4
 mul-if4 c = search needs
 
--- src/lib.rt:146:22
 add-if4 : tie.Need-add-if4
 add-if4 c = search needs
 
--- src/lib.rt:147:9
 returns-4 : tie.Need-returns-4
 unfolding headerOf
 returns-4 c = rw (le-ltb _ _ (c .before .before .before .before .before .before .if1 .left), ← c .before .before .before .before .before .letters-stand .ensures, c .before .before .before .before .if2 .left, ← c .before .before .before .word-at .ensures, eq-eqb _ _ (c .before .before .if3 .left), ← c .before .word-at2 .ensures, ne-eqb _ _ (c .if4 .taken))
 
--- src/lib.rt:133:1
 returns-5 : tie.Need-returns-5
 unfolding headerOf
 returns-5 c = rw (le-ltb _ _ (c .before .before .before .before .before .before .if1 .left), ← c .before .before .before .before .before .letters-stand .ensures, c .before .before .before .before .if2 .left, ← c .before .before .before .word-at .ensures, eq-eqb _ _ (c .before .before .if3 .left), ← c .before .word-at2 .ensures, eq-eqb _ _ (c .if4 .left))

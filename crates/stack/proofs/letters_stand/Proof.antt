@@ -3,27 +3,21 @@ use borrow.Author.Needs.{needs}
 use Rattle.stack.proofs.letters_stand.Statement.{statement}
 use Rattle.stack.proofs.letters_stand.Tie as tie
 
--- src/lib.rt:124:8
 shared-slice-read-if1 : tie.Need-shared-slice-read-if1
 shared-slice-read-if1 c = search needs
 
--- src/lib.rt:125:12
 shared-slice-read-if2 : tie.Need-shared-slice-read-if2
 shared-slice-read-if2 c = search needs
 
--- src/lib.rt:126:20
 shared-slice-read-result : tie.Need-shared-slice-read-result
 shared-slice-read-result c = search needs
 
--- src/lib.rt:126:13
 returns : tie.Need-returns
 returns c = rw (eq-eqb _ _ (c .before .before .before .if1 .taken), eq-eqb _ _ (c .before .if2 .taken))
 
--- src/lib.rt:120:1
 returns-2 : tie.Need-returns-2
 returns-2 c = rw (eq-eqb _ _ (c .before .before .if1 .taken), ne-eqb _ _ (c .if2 .left))
 
--- src/lib.rt:120:1
 returns-3 : tie.Need-returns-3
 returns-3 c = rw (ne-eqb _ _ (c .if1 .left))
 

@@ -9,47 +9,36 @@ Inv-loop a b count₀ i₀ count i = (i ≤ 1543) × (count ≤ i)
 abbrev μ-loop : tie.MeasureT-loop
 μ-loop a b count₀ i₀ count i = 1543 - i
 
--- src/main.rt:303:5
 loop-holds : tie.Need-loop-holds Inv-loop μ-loop
 loop-holds c = search needs
 
--- src/main.rt:304:33
 element-copy-out-narrow : tie.Need-element-copy-out-narrow Inv-loop μ-loop
 element-copy-out-narrow c = search needs
 
--- src/main.rt:304:26
 narrow-requires : tie.Need-narrow-requires Inv-loop μ-loop
 narrow-requires c κs = search needs
 
--- src/main.rt:304:47
 element-copy-out-narrow-2 : tie.Need-element-copy-out-narrow-2 Inv-loop μ-loop
 element-copy-out-narrow-2 c = search needs
 
--- src/main.rt:304:40
 narrow-requires-2 : tie.Need-narrow-requires-2 Inv-loop μ-loop
 narrow-requires-2 c κs = search needs
 
--- src/main.rt:304:18
 differs-requires : tie.Need-differs-requires Inv-loop μ-loop
 differs-requires c κs = search needs
 
--- src/main.rt:304:9
 add-count : tie.Need-add-count Inv-loop μ-loop
 add-count c = search needs
 
--- src/main.rt:305:9
 add-i : tie.Need-add-i Inv-loop μ-loop
 add-i c = search needs
 
--- src/main.rt:303:5
 loop-less : tie.Need-loop-less Inv-loop μ-loop
 loop-less c = search needs
 
--- src/main.rt:303:5
 loop-again : tie.Need-loop-again Inv-loop μ-loop
 loop-again c = search needs
 
--- src/main.rt:300:1
 returns : tie.Need-returns Inv-loop μ-loop
 returns c = search needs
 

@@ -5,79 +5,60 @@ use borrow.Author.Needs.{needs}
 use Rattle.stack_run.proofs.count_case.Statement.{statement}
 use Rattle.stack_run.proofs.count_case.Tie as tie
 
--- src/main.rt:100:10
 slice-aggregate-make : tie.Need-slice-aggregate-make
 slice-aggregate-make c = refl
 
--- src/main.rt:100:5
 make-requires : tie.Need-make-requires
 make-requires c κs = search needs
 
--- src/main.rt:101:19
 mul-end : tie.Need-mul-end
 mul-end c = search needs
 
--- src/main.rt:101:15
 add-end : tie.Need-add-end
 add-end c = search needs
 
--- src/main.rt:102:5
 say-requires : tie.Need-say-requires
 say-requires c κs = search needs
 
--- src/main.rt:103:9
 slice-aggregate-say : tie.Need-slice-aggregate-say
 slice-aggregate-say c = refl
 
--- src/main.rt:103:5
 say-requires-2 : tie.Need-say-requires-2
 say-requires-2 c κs = search needs
 
--- src/main.rt:104:30
 array-share-prefix-space : tie.Need-array-share-prefix-space
 array-share-prefix-space c = search needs
 
--- src/main.rt:104:30
 slice-aggregate-check : tie.Need-slice-aggregate-check
 slice-aggregate-check c = sym (length-take-le _ _ (omega (arith, c .before .before .before .before .before .make .kept .0)))
 
--- src/main.rt:104:17
 check-requires : tie.Need-check-requires
 check-requires c κs = search needs
 
--- src/main.rt:104:5
 say-counted-requires : tie.Need-say-counted-requires
 say-counted-requires c κs = search needs
 
--- src/main.rt:105:5
 say-requires-3 : tie.Need-say-requires-3
 say-requires-3 c κs = search needs
 
--- src/main.rt:106:9
 slice-aggregate-say-2 : tie.Need-slice-aggregate-say-2
 slice-aggregate-say-2 c = refl
 
--- src/main.rt:106:5
 say-requires-4 : tie.Need-say-requires-4
 say-requires-4 c κs = search needs
 
--- src/main.rt:107:30
 array-share-prefix-space-2 : tie.Need-array-share-prefix-space-2
 array-share-prefix-space-2 c = search needs
 
--- src/main.rt:107:30
 slice-aggregate-check-2 : tie.Need-slice-aggregate-check-2
 slice-aggregate-check-2 c = sym (length-take-le _ _ (omega (arith, c .before .before .before .before .before .before .before .before .before .before .before .make .kept .0)))
 
--- src/main.rt:107:17
 check-requires-2 : tie.Need-check-requires-2
 check-requires-2 c κs = search needs
 
--- src/main.rt:107:5
 say-counted-requires-2 : tie.Need-say-counted-requires-2
 say-counted-requires-2 c κs = search needs
 
--- src/main.rt:96:1
 returns : tie.Need-returns
 returns c = search needs
 

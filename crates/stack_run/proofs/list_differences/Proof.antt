@@ -9,47 +9,36 @@ Inv-loop a b count₀ i₀ count i = (i ≤ 256) × (count ≤ i)
 abbrev μ-loop : tie.MeasureT-loop
 μ-loop a b count₀ i₀ count i = 256 - i
 
--- src/main.rt:293:5
 loop-holds : tie.Need-loop-holds Inv-loop μ-loop
 loop-holds c = search needs
 
--- src/main.rt:294:26
 mul-differs : tie.Need-mul-differs Inv-loop μ-loop
 mul-differs c = search needs
 
--- src/main.rt:294:26
 element-copy-out-differs : tie.Need-element-copy-out-differs Inv-loop μ-loop
 element-copy-out-differs c = search needs
 
--- src/main.rt:294:32
 mul-differs-2 : tie.Need-mul-differs-2 Inv-loop μ-loop
 mul-differs-2 c = search needs
 
--- src/main.rt:294:32
 element-copy-out-differs-2 : tie.Need-element-copy-out-differs-2 Inv-loop μ-loop
 element-copy-out-differs-2 c = search needs
 
--- src/main.rt:294:18
 differs-requires : tie.Need-differs-requires Inv-loop μ-loop
 differs-requires c κs = search needs
 
--- src/main.rt:294:9
 add-count : tie.Need-add-count Inv-loop μ-loop
 add-count c = search needs
 
--- src/main.rt:295:9
 add-i : tie.Need-add-i Inv-loop μ-loop
 add-i c = search needs
 
--- src/main.rt:293:5
 loop-less : tie.Need-loop-less Inv-loop μ-loop
 loop-less c = search needs
 
--- src/main.rt:293:5
 loop-again : tie.Need-loop-again Inv-loop μ-loop
 loop-again c = search needs
 
--- src/main.rt:290:1
 returns : tie.Need-returns Inv-loop μ-loop
 returns c = search needs
 

@@ -11,79 +11,60 @@ Inv-loop file₀ n i₀ file i = (i ≤ n) × (length file ≡ length file₀)
 abbrev μ-loop : tie.MeasureT-loop
 μ-loop file₀ n i₀ file i = n - i
 
--- src/main.rt:75:5
 put-requires : tie.Need-put-requires Inv-loop μ-loop
 put-requires c κs = search needs
 
--- src/main.rt:76:5
 put-requires-2 : tie.Need-put-requires-2 Inv-loop μ-loop
 put-requires-2 c κs = search needs
 
--- src/main.rt:77:5
 put-requires-3 : tie.Need-put-requires-3 Inv-loop μ-loop
 put-requires-3 c κs = search needs
 
--- src/main.rt:78:5
 put-requires-4 : tie.Need-put-requires-4 Inv-loop μ-loop
 put-requires-4 c κs = search needs
 
--- src/main.rt:80:5
 loop-holds : tie.Need-loop-holds Inv-loop μ-loop
 loop-holds c = search needs
 
--- src/main.rt:81:23
 mul-put : tie.Need-mul-put Inv-loop μ-loop
 mul-put c = search needs
 
--- src/main.rt:81:19
 add-put : tie.Need-add-put Inv-loop μ-loop
 add-put c = search needs
 
--- src/main.rt:81:9
 put-requires-5 : tie.Need-put-requires-5 Inv-loop μ-loop
 put-requires-5 c κs = search needs
 
--- src/main.rt:82:23
 mul-put-2 : tie.Need-mul-put-2 Inv-loop μ-loop
 mul-put-2 c = search needs
 
--- src/main.rt:82:19
 add-put-2 : tie.Need-add-put-2 Inv-loop μ-loop
 add-put-2 c = search needs
 
--- src/main.rt:82:9
 put-requires-6 : tie.Need-put-requires-6 Inv-loop μ-loop
 put-requires-6 c κs = search needs
 
--- src/main.rt:83:24
 mul-put-3 : tie.Need-mul-put-3 Inv-loop μ-loop
 mul-put-3 c = search needs
 
--- src/main.rt:83:19
 add-put-3 : tie.Need-add-put-3 Inv-loop μ-loop
 add-put-3 c = search needs
 
--- src/main.rt:83:9
 put-requires-7 : tie.Need-put-requires-7 Inv-loop μ-loop
 put-requires-7 c κs = search needs
 
--- src/main.rt:84:9
 add-i : tie.Need-add-i Inv-loop μ-loop
 add-i c = search needs
 
--- src/main.rt:80:5
 loop-less : tie.Need-loop-less Inv-loop μ-loop
 loop-less c = search needs
 
--- src/main.rt:80:5
 loop-again : tie.Need-loop-again Inv-loop μ-loop
 loop-again c = search needs
 
--- src/main.rt:72:1
 same-length : tie.Need-same-length Inv-loop μ-loop
 same-length c = search needs
 
--- src/main.rt:72:1
 returns : tie.Need-returns Inv-loop μ-loop
 returns c = search needs
 

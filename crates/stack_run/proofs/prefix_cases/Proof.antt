@@ -9,27 +9,21 @@ Inv-loop end₀ end = end ≤ 21
 abbrev μ-loop : tie.MeasureT-loop
 μ-loop end₀ end = 21 - end
 
--- src/main.rt:140:5
 loop-holds : tie.Need-loop-holds Inv-loop μ-loop
 loop-holds c = search needs
 
--- src/main.rt:141:9
 prefix-case-requires : tie.Need-prefix-case-requires Inv-loop μ-loop
 prefix-case-requires c κs = search needs
 
--- src/main.rt:142:9
 add-end : tie.Need-add-end Inv-loop μ-loop
 add-end c = search needs
 
--- src/main.rt:140:5
 loop-less : tie.Need-loop-less Inv-loop μ-loop
 loop-less c = search needs
 
--- src/main.rt:140:5
 loop-again : tie.Need-loop-again Inv-loop μ-loop
 loop-again c = search needs
 
--- src/main.rt:138:1
 returns : tie.Need-returns Inv-loop μ-loop
 returns c = search needs
 

@@ -4,43 +4,33 @@ use borrow.Author.Needs.{needs}
 use Rattle.stack_run.proofs.put.Statement.{statement}
 use Rattle.stack_run.proofs.put.Tie as tie
 
--- src/main.rt:64:17
 sub-if2 : tie.Need-sub-if2
 sub-if2 c = search needs
 
--- src/main.rt:65:23
 cast-file : tie.Need-cast-file
 cast-file c = search needs
 
--- src/main.rt:65:13
 slice-write-file : tie.Need-slice-write-file
 slice-write-file c = search needs
 
--- src/main.rt:66:27
 cast-file-2 : tie.Need-cast-file-2
 cast-file-2 c = search needs
 
--- src/main.rt:66:18
 add-file : tie.Need-add-file
 add-file c = search needs
 
--- src/main.rt:66:13
 slice-write-file-2 : tie.Need-slice-write-file-2
 slice-write-file-2 c = simp length-set (omega arith)
 
--- src/main.rt:62:1
 same-length : tie.Need-same-length
 same-length c = search needs
 
--- src/main.rt:62:1
 returns : tie.Need-returns
 returns c = search needs
 
--- src/main.rt:62:1
 returns-2 : tie.Need-returns-2
 returns-2 c = search needs
 
--- src/main.rt:62:1
 returns-3 : tie.Need-returns-3
 returns-3 c = search needs
 

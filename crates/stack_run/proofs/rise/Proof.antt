@@ -12,43 +12,33 @@ Inv-loop list₀ step x₀ i₀ list x i = (i ≤ length list₀) × (length lis
 abbrev μ-loop : tie.MeasureT-loop
 μ-loop list₀ step x₀ i₀ list x i = length list₀ - i
 
--- src/main.rt:283:5
 loop-holds : tie.Need-loop-holds Inv-loop μ-loop
 loop-holds c = search needs
 
--- src/main.rt:284:19
 add-list : tie.Need-add-list Inv-loop μ-loop
 add-list c = search needs
 
--- src/main.rt:284:9
 mul-list : tie.Need-mul-list Inv-loop μ-loop
 mul-list c = search needs
 
--- src/main.rt:284:9
 slice-write-list : tie.Need-slice-write-list Inv-loop μ-loop
 slice-write-list c = search needs
 
--- src/main.rt:285:14
 add-x : tie.Need-add-x Inv-loop μ-loop
 add-x c = search needs
 
--- src/main.rt:286:9
 add-i : tie.Need-add-i Inv-loop μ-loop
 add-i c = search needs
 
--- src/main.rt:283:5
 loop-less : tie.Need-loop-less Inv-loop μ-loop
 loop-less c = search needs
 
--- src/main.rt:283:5
 loop-again : tie.Need-loop-again Inv-loop μ-loop
 loop-again c = simp length-set (omega arith)
 
--- src/main.rt:278:1
 same-length : tie.Need-same-length Inv-loop μ-loop
 same-length c = search needs
 
--- src/main.rt:278:1
 returns : tie.Need-returns Inv-loop μ-loop
 returns c = search needs
 

@@ -11,51 +11,39 @@ Inv-loop part i₀ t3 i = (i ≤ length part) × (length t3 ≡ 1)
 abbrev μ-loop : tie.MeasureT-loop
 μ-loop part i₀ t3 i = length part - i
 
--- src/main.rt:198:5
 loop-holds : tie.Need-loop-holds Inv-loop μ-loop
 loop-holds c = search needs
 
--- src/main.rt:199:9
 say-space-requires : tie.Need-say-space-requires Inv-loop μ-loop
 say-space-requires c κs = search needs
 
--- src/main.rt:200:42
 shared-slice-read-narrow : tie.Need-shared-slice-read-narrow Inv-loop μ-loop
 shared-slice-read-narrow c = search needs
 
--- src/main.rt:200:35
 narrow-requires : tie.Need-narrow-requires Inv-loop μ-loop
 narrow-requires c κs = search needs
 
--- src/main.rt:200:30
 wide-requires : tie.Need-wide-requires Inv-loop μ-loop
 wide-requires c κs = search needs
 
--- src/main.rt:200:9
 print-decimal-requires : tie.Need-print-decimal-requires Inv-loop μ-loop
 print-decimal-requires c κs = search needs
 
--- src/main.rt:201:9
 add-i : tie.Need-add-i Inv-loop μ-loop
 add-i c = search needs
 
--- src/main.rt:198:5
 loop-less : tie.Need-loop-less Inv-loop μ-loop
 loop-less c = search needs
 
--- src/main.rt:198:5
 loop-again : tie.Need-loop-again Inv-loop μ-loop
 loop-again c = search needs
 
--- src/main.rt:203:9
 slice-aggregate-say : tie.Need-slice-aggregate-say Inv-loop μ-loop
 slice-aggregate-say c = search needs
 
--- src/main.rt:203:5
 say-requires : tie.Need-say-requires Inv-loop μ-loop
 say-requires c κs = search needs
 
--- src/main.rt:196:1
 returns : tie.Need-returns Inv-loop μ-loop
 returns c = search needs
 

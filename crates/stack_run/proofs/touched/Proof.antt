@@ -10,39 +10,30 @@ Inv-loop buffer count₀ i₀ count i = (i ≤ length buffer) × (count ≤ i)
 abbrev μ-loop : tie.MeasureT-loop
 μ-loop buffer count₀ i₀ count i = length buffer - i
 
--- src/main.rt:228:5
 loop-holds : tie.Need-loop-holds Inv-loop μ-loop
 loop-holds c = search needs
 
--- src/main.rt:229:33
 shared-slice-read-narrow : tie.Need-shared-slice-read-narrow Inv-loop μ-loop
 shared-slice-read-narrow c = search needs
 
--- src/main.rt:229:26
 narrow-requires : tie.Need-narrow-requires Inv-loop μ-loop
 narrow-requires c κs = search needs
 
--- src/main.rt:229:18
 differs-requires : tie.Need-differs-requires Inv-loop μ-loop
 differs-requires c κs = search needs
 
--- src/main.rt:229:9
 add-count : tie.Need-add-count Inv-loop μ-loop
 add-count c = search needs
 
--- src/main.rt:230:9
 add-i : tie.Need-add-i Inv-loop μ-loop
 add-i c = search needs
 
--- src/main.rt:228:5
 loop-less : tie.Need-loop-less Inv-loop μ-loop
 loop-less c = search needs
 
--- src/main.rt:228:5
 loop-again : tie.Need-loop-again Inv-loop μ-loop
 loop-again c = search needs
 
--- src/main.rt:225:1
 returns : tie.Need-returns Inv-loop μ-loop
 returns c = search needs
 

@@ -1,11 +1,9 @@
 use Rattle.terms.proofs.gap_stands.Statement.{statement}
 use Rattle.terms.proofs.gap_stands.Tie as tie
 
--- src/lib.rt:180:9
 returns : tie.Need-returns
 returns c = rw (c .before .if1 .taken)
 
--- src/lib.rt:176:1
 returns-2 : tie.Need-returns-2
 returns-2 c = rw (c .before .if1 .left)
 

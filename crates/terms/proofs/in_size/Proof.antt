@@ -2,11 +2,9 @@ use borrow.Author.Tests.{le-leb, lt-leb}
 use Rattle.terms.proofs.in_size.Statement.{statement}
 use Rattle.terms.proofs.in_size.Tie as tie
 
--- src/lib.rt:156:9
 returns : tie.Need-returns
 returns c = rw (le-leb _ _ (c .if1 .taken))
 
--- src/lib.rt:152:1
 returns-2 : tie.Need-returns-2
 returns-2 c = rw (lt-leb _ _ (c .if1 .left))
 

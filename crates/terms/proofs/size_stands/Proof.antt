@@ -2,19 +2,15 @@ use borrow.Author.Needs.{needs}
 use Rattle.terms.proofs.size_stands.Statement.{statement}
 use Rattle.terms.proofs.size_stands.Tie as tie
 
--- src/lib.rt:170:8
 in-size-requires : tie.Need-in-size-requires
 in-size-requires c κs = search needs
 
--- src/lib.rt:171:9
 in-size-requires-2 : tie.Need-in-size-requires-2
 in-size-requires-2 c κs = search needs
 
--- src/lib.rt:171:9
 returns : tie.Need-returns
 returns c = rw (← c .before .before .in-size .ensures, c .before .if1 .taken) (c .in-size2 .ensures)
 
--- src/lib.rt:167:1
 returns-2 : tie.Need-returns-2
 returns-2 c = rw (← c .before .in-size .ensures, c .if1 .left)
 

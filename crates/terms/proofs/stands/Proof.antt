@@ -2,27 +2,21 @@ use borrow.Author.Needs.{needs}
 use Rattle.terms.proofs.stands.Statement.{statement}
 use Rattle.terms.proofs.stands.Tie as tie
 
--- src/lib.rt:189:23
 enum-told : tie.Need-enum-told
 enum-told c = search needs
 
--- src/lib.rt:189:23
 size-stands-requires : tie.Need-size-stands-requires
 size-stands-requires c κs = search needs
 
--- src/lib.rt:190:22
 enum-told-2 : tie.Need-enum-told-2
 enum-told-2 c = search needs
 
--- src/lib.rt:190:22
 gap-stands-requires : tie.Need-gap-stands-requires
 gap-stands-requires c κs = search needs
 
--- src/lib.rt:185:1
 returns : tie.Need-returns
 returns c = rw (c .before .enum-told .given .1) (c .size-stands .ensures)
 
--- src/lib.rt:185:1
 returns-2 : tie.Need-returns-2
 returns-2 c = rw (c .before .enum-told2 .given .1) (c .gap-stands .ensures)
 

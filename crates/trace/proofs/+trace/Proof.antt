@@ -2,7 +2,7 @@ use Rattle.terms.proofs.Parts.{from-length}
 use lib.ListN.{length}
 use Rattle.trace.proofs.Tracing.{first-asks, cap-asks, put-asks, again, done, nothing}
 use native.Mathlib.Omega.{arith}
-use mathlib.Core.Path.{_≡_, refl, sym, _∙_}
+use mathlib.Core.Path.{_∙_}
 use denote.Ref.{now}
 use borrow.Author.Needs.{needs}
 use Prim.Native.Nat.{ℕ, _<_}
@@ -27,7 +27,6 @@ trace-at t = and 7 trace-kinds.ps (is 7 trace-kinds.ps μ-trace t) trace.Pre
 abbrev trace-below : ℕ → In 7 trace-kinds.ps
 trace-below t = and 7 trace-kinds.ps (falls 7 trace-kinds.ps _<_ μ-trace t) trace.Pre
 
--- src/lib.rt:114:13
 trace-first-end-requires : (t : ℕ) → trace-lts.Need-first-end-requires (
   first-end-reads.Asked,
   first-end-reads.Learnt,
@@ -42,7 +41,6 @@ trace-first-end-requires : (t : ℕ) → trace-lts.Need-first-end-requires (
 ) (trace-at t) trace.Post
 trace-first-end-requires t c κs = first-asks _ _ _ _ _ _ _ _ _ _ (c .before .before .before .before .before .before .before .before .pre .1) (c .if1 .taken)
 
--- src/lib.rt:119:13
 trace-cap-of-requires : (t : ℕ) → trace-lts.Need-cap-of-requires (
   first-end-reads.Asked,
   first-end-reads.Learnt,
@@ -57,7 +55,6 @@ trace-cap-of-requires : (t : ℕ) → trace-lts.Need-cap-of-requires (
 ) (trace-at t) trace.Post
 trace-cap-of-requires t c κs = cap-asks _ _ _ _ _ _ _ _ _ _ (c .before .before .before .before .before .before .before .before .before .pre .1) (c .before .if1 .taken) _ (c .first-end .ensures .0)
 
--- src/lib.rt:115:9
 trace-put-first-requires : (t : ℕ) → trace-lts.Need-put-first-requires (
   first-end-reads.Asked,
   first-end-reads.Learnt,
@@ -72,7 +69,6 @@ trace-put-first-requires : (t : ℕ) → trace-lts.Need-put-first-requires (
 ) (trace-at t) trace.Post
 trace-put-first-requires t c κs = put-asks _ _ _ _ _ _ _ _ _ _ (c .before .before .before .before .before .before .before .before .before .before .before .before .pre .1) (c .before .before .before .before .if1 .taken) _ (c .before .before .before .first-end .ensures .0)
 
--- src/lib.rt:127:20
 trace-mul-from : (t : ℕ) → trace-lts.Need-mul-from (
   first-end-reads.Asked,
   first-end-reads.Learnt,
@@ -87,7 +83,6 @@ trace-mul-from : (t : ℕ) → trace-lts.Need-mul-from (
 ) (trace-at t) trace.Post
 trace-mul-from t c = search needs
 
--- src/lib.rt:130:13
 trace-add-trace : (t : ℕ) → trace-lts.Need-add-trace (
   first-end-reads.Asked,
   first-end-reads.Learnt,
@@ -102,7 +97,6 @@ trace-add-trace : (t : ℕ) → trace-lts.Need-add-trace (
 ) (trace-at t) trace.Post
 trace-add-trace t c = search needs
 
--- src/lib.rt:131:13
 trace-last-gap-requires : (t : ℕ) → trace-lts.Need-last-gap-requires (
   first-end-reads.Asked,
   first-end-reads.Learnt,
@@ -117,7 +111,6 @@ trace-last-gap-requires : (t : ℕ) → trace-lts.Need-last-gap-requires (
 ) (trace-at t) trace.Post
 trace-last-gap-requires t c κs = search needs
 
--- src/lib.rt:132:13
 trace-mul-trace : (t : ℕ) → trace-lts.Need-mul-trace (
   first-end-reads.Asked,
   first-end-reads.Learnt,
@@ -132,7 +125,6 @@ trace-mul-trace : (t : ℕ) → trace-lts.Need-mul-trace (
 ) (trace-at t) trace.Post
 trace-mul-trace t c = search needs
 
--- src/lib.rt:132:13
 trace-sub-trace : (t : ℕ) → trace-lts.Need-sub-trace (
   first-end-reads.Asked,
   first-end-reads.Learnt,
@@ -147,7 +139,6 @@ trace-sub-trace : (t : ℕ) → trace-lts.Need-sub-trace (
 ) (trace-at t) trace.Post
 trace-sub-trace t c = search needs
 
--- src/lib.rt:132:13
 trace-part-trace-start : (t : ℕ) → trace-lts.Need-part-trace-start (
   first-end-reads.Asked,
   first-end-reads.Learnt,
@@ -162,7 +153,6 @@ trace-part-trace-start : (t : ℕ) → trace-lts.Need-part-trace-start (
 ) (trace-at t) trace.Post
 trace-part-trace-start t c = search needs
 
--- src/lib.rt:132:13
 trace-part-trace-end : (t : ℕ) → trace-lts.Need-part-trace-end (
   first-end-reads.Asked,
   first-end-reads.Learnt,
@@ -177,7 +167,6 @@ trace-part-trace-end : (t : ℕ) → trace-lts.Need-part-trace-end (
 ) (trace-at t) trace.Post
 trace-part-trace-end t c = search needs
 
--- src/lib.rt:133:13
 trace-mul-trace-2 : (t : ℕ) → trace-lts.Need-mul-trace-2 (
   first-end-reads.Asked,
   first-end-reads.Learnt,
@@ -192,7 +181,6 @@ trace-mul-trace-2 : (t : ℕ) → trace-lts.Need-mul-trace-2 (
 ) (trace-at t) trace.Post
 trace-mul-trace-2 t c = search needs
 
--- src/lib.rt:133:13
 trace-sub-trace-2 : (t : ℕ) → trace-lts.Need-sub-trace-2 (
   first-end-reads.Asked,
   first-end-reads.Learnt,
@@ -207,7 +195,6 @@ trace-sub-trace-2 : (t : ℕ) → trace-lts.Need-sub-trace-2 (
 ) (trace-at t) trace.Post
 trace-sub-trace-2 t c = search needs
 
--- src/lib.rt:133:13
 trace-part-trace-start-2 : (t : ℕ) → trace-lts.Need-part-trace-start-2 (
   first-end-reads.Asked,
   first-end-reads.Learnt,
@@ -222,7 +209,6 @@ trace-part-trace-start-2 : (t : ℕ) → trace-lts.Need-part-trace-start-2 (
 ) (trace-at t) trace.Post
 trace-part-trace-start-2 t c = search needs
 
--- src/lib.rt:133:13
 trace-part-trace-end-2 : (t : ℕ) → trace-lts.Need-part-trace-end-2 (
   first-end-reads.Asked,
   first-end-reads.Learnt,
@@ -237,7 +223,6 @@ trace-part-trace-end-2 : (t : ℕ) → trace-lts.Need-part-trace-end-2 (
 ) (trace-at t) trace.Post
 trace-part-trace-end-2 t c = search needs
 
--- src/lib.rt:134:13
 trace-mul-trace-3 : (t : ℕ) → trace-lts.Need-mul-trace-3 (
   first-end-reads.Asked,
   first-end-reads.Learnt,
@@ -252,7 +237,6 @@ trace-mul-trace-3 : (t : ℕ) → trace-lts.Need-mul-trace-3 (
 ) (trace-at t) trace.Post
 trace-mul-trace-3 t c = search needs
 
--- src/lib.rt:134:13
 trace-sub-trace-3 : (t : ℕ) → trace-lts.Need-sub-trace-3 (
   first-end-reads.Asked,
   first-end-reads.Learnt,
@@ -267,7 +251,6 @@ trace-sub-trace-3 : (t : ℕ) → trace-lts.Need-sub-trace-3 (
 ) (trace-at t) trace.Post
 trace-sub-trace-3 t c = search needs
 
--- src/lib.rt:134:13
 trace-part-trace-start-3 : (t : ℕ) → trace-lts.Need-part-trace-start-3 (
   first-end-reads.Asked,
   first-end-reads.Learnt,
@@ -282,7 +265,6 @@ trace-part-trace-start-3 : (t : ℕ) → trace-lts.Need-part-trace-start-3 (
 ) (trace-at t) trace.Post
 trace-part-trace-start-3 t c = search needs
 
--- src/lib.rt:134:13
 trace-part-trace-end-3 : (t : ℕ) → trace-lts.Need-part-trace-end-3 (
   first-end-reads.Asked,
   first-end-reads.Learnt,
@@ -297,7 +279,6 @@ trace-part-trace-end-3 : (t : ℕ) → trace-lts.Need-part-trace-end-3 (
 ) (trace-at t) trace.Post
 trace-part-trace-end-3 t c = search needs
 
--- src/lib.rt:135:13
 trace-mul-trace-4 : (t : ℕ) → trace-lts.Need-mul-trace-4 (
   first-end-reads.Asked,
   first-end-reads.Learnt,
@@ -312,7 +293,6 @@ trace-mul-trace-4 : (t : ℕ) → trace-lts.Need-mul-trace-4 (
 ) (trace-at t) trace.Post
 trace-mul-trace-4 t c = search needs
 
--- src/lib.rt:135:13
 trace-sub-trace-4 : (t : ℕ) → trace-lts.Need-sub-trace-4 (
   first-end-reads.Asked,
   first-end-reads.Learnt,
@@ -327,7 +307,6 @@ trace-sub-trace-4 : (t : ℕ) → trace-lts.Need-sub-trace-4 (
 ) (trace-at t) trace.Post
 trace-sub-trace-4 t c = search needs
 
--- src/lib.rt:135:13
 trace-part-trace-start-4 : (t : ℕ) → trace-lts.Need-part-trace-start-4 (
   first-end-reads.Asked,
   first-end-reads.Learnt,
@@ -342,7 +321,6 @@ trace-part-trace-start-4 : (t : ℕ) → trace-lts.Need-part-trace-start-4 (
 ) (trace-at t) trace.Post
 trace-part-trace-start-4 t c = search needs
 
--- src/lib.rt:135:13
 trace-part-trace-end-4 : (t : ℕ) → trace-lts.Need-part-trace-end-4 (
   first-end-reads.Asked,
   first-end-reads.Learnt,
@@ -357,7 +335,6 @@ trace-part-trace-end-4 : (t : ℕ) → trace-lts.Need-part-trace-end-4 (
 ) (trace-at t) trace.Post
 trace-part-trace-end-4 t c = search needs
 
--- src/lib.rt:136:13
 trace-mul-trace-5 : (t : ℕ) → trace-lts.Need-mul-trace-5 (
   first-end-reads.Asked,
   first-end-reads.Learnt,
@@ -372,7 +349,6 @@ trace-mul-trace-5 : (t : ℕ) → trace-lts.Need-mul-trace-5 (
 ) (trace-at t) trace.Post
 trace-mul-trace-5 t c = search needs
 
--- src/lib.rt:136:13
 trace-sub-trace-5 : (t : ℕ) → trace-lts.Need-sub-trace-5 (
   first-end-reads.Asked,
   first-end-reads.Learnt,
@@ -387,7 +363,6 @@ trace-sub-trace-5 : (t : ℕ) → trace-lts.Need-sub-trace-5 (
 ) (trace-at t) trace.Post
 trace-sub-trace-5 t c = search needs
 
--- src/lib.rt:136:13
 trace-part-trace-start-5 : (t : ℕ) → trace-lts.Need-part-trace-start-5 (
   first-end-reads.Asked,
   first-end-reads.Learnt,
@@ -402,7 +377,6 @@ trace-part-trace-start-5 : (t : ℕ) → trace-lts.Need-part-trace-start-5 (
 ) (trace-at t) trace.Post
 trace-part-trace-start-5 t c = search needs
 
--- src/lib.rt:136:13
 trace-part-trace-end-5 : (t : ℕ) → trace-lts.Need-part-trace-end-5 (
   first-end-reads.Asked,
   first-end-reads.Learnt,
@@ -417,7 +391,6 @@ trace-part-trace-end-5 : (t : ℕ) → trace-lts.Need-part-trace-end-5 (
 ) (trace-at t) trace.Post
 trace-part-trace-end-5 t c = search needs
 
--- src/lib.rt:137:13
 trace-mul-trace-6 : (t : ℕ) → trace-lts.Need-mul-trace-6 (
   first-end-reads.Asked,
   first-end-reads.Learnt,
@@ -432,7 +405,6 @@ trace-mul-trace-6 : (t : ℕ) → trace-lts.Need-mul-trace-6 (
 ) (trace-at t) trace.Post
 trace-mul-trace-6 t c = search needs
 
--- src/lib.rt:137:13
 trace-sub-trace-6 : (t : ℕ) → trace-lts.Need-sub-trace-6 (
   first-end-reads.Asked,
   first-end-reads.Learnt,
@@ -447,7 +419,6 @@ trace-sub-trace-6 : (t : ℕ) → trace-lts.Need-sub-trace-6 (
 ) (trace-at t) trace.Post
 trace-sub-trace-6 t c = search needs
 
--- src/lib.rt:137:13
 trace-part-trace-start-6 : (t : ℕ) → trace-lts.Need-part-trace-start-6 (
   first-end-reads.Asked,
   first-end-reads.Learnt,
@@ -462,7 +433,6 @@ trace-part-trace-start-6 : (t : ℕ) → trace-lts.Need-part-trace-start-6 (
 ) (trace-at t) trace.Post
 trace-part-trace-start-6 t c = search needs
 
--- src/lib.rt:137:13
 trace-part-trace-end-6 : (t : ℕ) → trace-lts.Need-part-trace-end-6 (
   first-end-reads.Asked,
   first-end-reads.Learnt,
@@ -477,7 +447,6 @@ trace-part-trace-end-6 : (t : ℕ) → trace-lts.Need-part-trace-end-6 (
 ) (trace-at t) trace.Post
 trace-part-trace-end-6 t c = search needs
 
--- src/lib.rt:128:9
 trace-trace-requires : (t : ℕ) → trace-lts.Need-trace-requires (
   first-end-reads.Asked,
   first-end-reads.Learnt,
@@ -492,7 +461,6 @@ trace-trace-requires : (t : ℕ) → trace-lts.Need-trace-requires (
 ) (trace-at t) trace.Post
 trace-trace-requires t c κs = (omega (arith, from-length (c .before .before .before .before .before .before .before .before .before .before .before .before .before .before .before .before .first-end .result) (now (c .before .before .before .before .before .before .before .before .before .before .before .before .before .before .before .before .before .before .before .before .before .before .before .before .before .args .h)), c .before .before .before .before .before .before .before .before .before .before .before .before .before .before .before .before .first-end .ensures .1, c .before .before .before .before .before .before .before .before .before .before .before .before .before .before .before .before .first-end .ensures .2, c .before .before .before .before .before .before .before .before .before .before .before .before .before .before .before .before .before .before .before .before .before .before .before .before .before .pre .0), again _ _ _ _ _ _ _ _ _ _ (c .before .before .before .before .before .before .before .before .before .before .before .before .before .before .before .before .before .before .before .before .before .before .before .before .before .pre .1) (c .before .before .before .before .before .before .before .before .before .before .before .before .before .before .before .before .before .if1 .taken) _ (c .before .before .before .before .before .before .before .before .before .before .before .before .before .before .before .before .first-end .ensures .0) _ (c .before .before .before .before .before .before .before .before .before .before .before .before .before .before .before .cap-of .ensures) _ (c .before .before .before .before .before .before .before .last-gap .ensures) (c .before .before .before .before .before .before .before .before .before .before .before .before .put-first .last .1 .1 .1 .1 .1 .1 .1 .1 .0) _ (c .before .before .before .before .before .before .before .before .before .before .before .before .put-first .kept .1 .1 .1 .1 .1 .1 .1 .1 .0) (c .before .before .before .before .before .before .before .before .before .before .before .before .put-first .kept .1 .1 .1 .1 .1 .1 .1 .1 .1 .0))
 
--- src/lib.rt:98:1
 trace-same-length : (t : ℕ) → trace-lts.Need-same-length (
   first-end-reads.Asked,
   first-end-reads.Learnt,
@@ -507,7 +475,6 @@ trace-same-length : (t : ℕ) → trace-lts.Need-same-length (
 ) (trace-at t) trace.Post
 trace-same-length t c = c .before .before .before .out2 .given .1 ∙ c .before .before .before .before .before .before .before .before .before .before .before .before .before .before .before .before .before .put-first .kept .1 .1 .1 .1 .1 .1 .1 .1 .0
 
--- src/lib.rt:98:1
 trace-same-length-2 : (t : ℕ) → trace-lts.Need-same-length-2 (
   first-end-reads.Asked,
   first-end-reads.Learnt,
@@ -522,7 +489,6 @@ trace-same-length-2 : (t : ℕ) → trace-lts.Need-same-length-2 (
 ) (trace-at t) trace.Post
 trace-same-length-2 t c = c .before .before .before .before .trace .kept .1 .1 .1 .1 .1 .1 .1 .1 .1 .0 ∙ c .before .before .before .before .before .before .before .before .before .before .before .before .before .before .before .before .before .put-first .kept .1 .1 .1 .1 .1 .1 .1 .1 .1 .0
 
--- src/lib.rt:98:1
 trace-returns : (t : ℕ) → trace-lts.Need-returns (
   first-end-reads.Asked,
   first-end-reads.Learnt,
@@ -537,7 +503,6 @@ trace-returns : (t : ℕ) → trace-lts.Need-returns (
 ) (trace-at t) trace.Post
 trace-returns t c = done _ _ _ _ _ _ _ _ _ _ (c .before .before .before .before .before .before .before .before .before .before .before .before .before .before .before .before .before .before .before .before .before .before .before .before .before .before .before .before .before .before .pre .1) (c .before .before .before .before .before .before .before .before .before .before .before .before .before .before .before .before .before .before .before .before .before .before .if1 .taken) _ (c .before .before .before .before .before .before .before .before .before .before .before .before .before .before .before .before .before .before .before .before .before .first-end .ensures .0) _ (c .before .before .before .before .before .before .before .before .before .before .before .before .before .before .before .before .before .before .before .before .cap-of .ensures) _ (c .before .before .before .before .before .before .before .before .before .before .before .before .last-gap .ensures) _ (c .before .before .before .before .before .before .before .before .before .before .before .before .before .before .before .before .before .put-first .ensures) _ (c .before .before .before .before .trace .ensures)
 
--- src/lib.rt:98:1
 trace-returns-2 : (t : ℕ) → trace-lts.Need-returns-2 (
   first-end-reads.Asked,
   first-end-reads.Learnt,

@@ -4,31 +4,24 @@ use borrow.Author.Needs.{needs}
 use Rattle.trace.proofs.fold_at.Statement.{statement}
 use Rattle.trace.proofs.fold_at.Tie as tie
 
--- src/lib.rt:35:24
 enum-told : tie.Need-enum-told
 enum-told c = search needs
 
--- src/lib.rt:37:37
 enum-told-2 : tie.Need-enum-told-2
 enum-told-2 c = search needs
 
--- src/lib.rt:37:13
 fill-requires : tie.Need-fill-requires
 fill-requires c κs = fill-asks _ _ (c .before .before .before .before .before .before .before .args .cap) _ _ _ _ (c .before .before .before .before .before .before .before .pre) (c .before .enum-told2 .given .1)
 
--- src/lib.rt:38:13
 fold-point-requires : tie.Need-fold-point-requires
 fold-point-requires c κs = point-asks _ _ _ _ _ _ _ (c .before .before .before .before .before .before .before .before .before .before .before .pre) (c .before .before .before .before .before .enum-told2 .given .1) _ (c .before .before .before .fill .ensures) (c .before .before .before .fill .kept .1 .1 .0)
 
--- src/lib.rt:22:1
 returns : tie.Need-returns
 returns c = apart-found _ _ (c .before .before .before .before .before .before .args .cap) _ _ _ _ (c .before .before .before .before .before .before .pre) (c .enum-told .given .1)
 
--- src/lib.rt:22:1
 same-length : tie.Need-same-length
 same-length c = search needs
 
--- src/lib.rt:22:1
 returns-2 : tie.Need-returns-2
 returns-2 c = nested-found _ _ _ _ _ _ _ (c .before .before .before .before .before .before .before .before .before .before .before .before .pre) (c .before .before .before .before .before .before .enum-told2 .given .1) _ (c .before .before .before .before .fill .ensures) _ (c .fold-point .ensures)
 

@@ -4,23 +4,18 @@ use borrow.Author.Needs.{needs}
 use Rattle.trace.proofs.put_group.Statement.{statement}
 use Rattle.trace.proofs.put_group.Tie as tie
 
--- src/lib.rt:57:9
 fold-at-requires : tie.Need-fold-at-requires
 fold-at-requires c κs = search needs
 
--- src/lib.rt:58:5
 write-group-requires : tie.Need-write-group-requires
 write-group-requires c κs = write-asks _ _ _ _ _ _ _ (c .before .before .before .before .before .before .before .before .before .before .before .pre .0) _ _ (c .before .before .before .before .before .before .before .before .before .before .before .pre .1) _ (c .before .before .before .before .fold-at .ensures)
 
--- src/lib.rt:43:1
 same-length : tie.Need-same-length
 same-length c = search needs
 
--- src/lib.rt:43:1
 same-length-2 : tie.Need-same-length-2
 same-length-2 c = search needs
 
--- src/lib.rt:43:1
 returns : tie.Need-returns
 returns c = record { at = c .before .before .before .before .before .before .before .fold-at .result; point = c .before .before .before .before .before .before .before .fold-at .ensures .point; holds = c .before .before .write-group .ensures }
 

@@ -6,43 +6,33 @@ use borrow.Author.Needs.{needs}
 use Rattle.vectors.proofs.file_of.Statement.{statement}
 use Rattle.vectors.proofs.file_of.Tie as tie
 
--- src/main.rt:262:30
 slice-aggregate-write : tie.Need-slice-aggregate-write
 slice-aggregate-write c = sym (length-take-le _ _ (omega arith))
 
--- src/main.rt:262:45
 slice-aggregate-write-2 : tie.Need-slice-aggregate-write-2
 slice-aggregate-write-2 c = sym (length-take-le _ _ (omega arith))
 
--- src/main.rt:262:59
 slice-aggregate-write-3 : tie.Need-slice-aggregate-write-3
 slice-aggregate-write-3 c = sym (length-take-le _ _ (omega arith))
 
--- src/main.rt:262:11
 write-requires : tie.Need-write-requires
 write-requires c κs = search needs
 
--- src/main.rt:263:24
 enum-known-k : tie.Need-enum-known-k
 enum-known-k c = search needs
 
--- src/main.rt:264:26
 enum-known-k-2 : tie.Need-enum-known-k-2
 enum-known-k-2 c = search needs
 
--- src/main.rt:257:1
 same-length : tie.Need-same-length
 same-length c = search needs
 
--- src/main.rt:257:1
 returns : tie.Need-returns
 returns c = search needs
 
--- src/main.rt:257:1
 same-length-2 : tie.Need-same-length-2
 same-length-2 c = search needs
 
--- src/main.rt:257:1
 returns-2 : tie.Need-returns-2
 returns-2 c = search needs
 
