@@ -9,7 +9,10 @@ use Rattle.terms.specs.Answer.{Answer, refusal, result}
 use Rattle.folding.specs.declared.Outline.{Outline}
 use Rattle.folding.specs.Best.{BestForHeight, BestForWidth, UnmeetableHeight, UnmeetableWidth}
 use Rattle.layout.specs.Layout.{layoutOf}
-use Rattle.layout.proofs.Best.{best-height, unmeetable-height, below-one, below-next, best-width, unmeetable-width}
+use Rattle.layout.proofs.Best.{best-height, unmeetable-height, below-one, below-next, best-width, unmeetable-width, own-height}
+use Rattle.layout.proofs.Reach.{met-keeps}
+use Rattle.layout.proofs.Table.{layout-high}
+use Rattle.group.specs.Group.{none}
 use Rattle.fold.specs.Calls.{Searched}
 use Rattle.fold.specs.Inner.{bestAt, Written, LeastFor, Halving}
 use Rattle.fold.proofs.Held.{Stacked}
@@ -24,17 +27,25 @@ module _ (kind : Kind) (cs : List Component) (s : Stacked cs) where
     pub too-wide : (o : Outline) (out : List ℕ) → o ≡ bestAt kind 2000000 cs → most < o .width .0 → Searched BestForWidth UnmeetableWidth kind cs most out out (refusal 9)
     too-wide o out e l = (refl, unmeetable-width kind cs (s .few) (s .sized) (s .gapped) most (rw e at l), refl)
 
-    pub within-all : (o : Outline) → o ≡ bestAt kind 2000000 cs → o .width .0 ≤ most → layoutOf kind 2000000 0 cs .width ≤ most
-    within-all o e l = rw e at l
-
     pub to-width : (limit : ℕ) (out out′ : List ℕ) (answer : Answer Outline) → LeastFor kind cs most limit → Written kind cs limit out out′ answer
         → Searched BestForWidth UnmeetableWidth kind cs most out out′ answer
     to-width limit out out′ (refusal k) l w = absurd (omega (arith, l .within, w .1))
     to-width limit out out′ (result o) l w = (rw (w .0) (best-width kind cs (s .few) (s .sized) most limit (l .below) _ (l .within) (w .1) (w .2)), w .3, w .4)
 
-    -- Halving.
-    pub starts : layoutOf kind 2000000 0 cs .width ≤ most → Halving kind cs most 1 2000000
-    starts w = record { order = omega arith; most = omega arith; within = w; below = below-one kind cs (s .few) (s .sized) (s .some) most (omega arith) }
+    -- Halving, from the height of the layout without a limit down.
+    starts-below : (top : ℕ) → layoutOf kind 2000000 0 cs .height ≡ top → layoutOf kind 2000000 0 cs .width ≤ most → Halving kind cs most 1 top
+    starts-below top e w =
+        let met : layoutOf kind 2000000 0 cs .width < none = omega (arith, w, h) in
+        let own = own-height kind cs (s .few) (s .sized) 2000000 met in
+        rw (← e) (record {
+          order = layout-high kind cs (s .some) (s .few) (s .sized) 2000000 met;
+          most = met-keeps kind 2000000 0 cs (s .few) (s .sized) met;
+          within = omega (arith, own, w);
+          below = below-one kind cs (s .few) (s .sized) (s .some) most (omega arith);
+        })
+
+    pub starts : (o : Outline) → o ≡ bestAt kind 2000000 cs → o .width .0 ≤ most → Halving kind cs most 1 (o .height .0)
+    starts o e w = starts-below (o .height .0) (rw e refl) (rw e at w)
 
     module _ (lo hi : ℕ) (l : lo < hi) (i : Halving kind cs most lo hi) (o : Outline) (e : o ≡ bestAt kind (lo + (hi - lo) / 2) cs) where
       pub lower : o .width .0 ≤ most → Halving kind cs most lo (lo + (hi - lo) / 2)

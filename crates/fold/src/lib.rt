@@ -6,9 +6,8 @@ ghost use Rattle.terms.specs.Answer.{countAnswer};
 ghost use Rattle.terms.specs.Component.{componentsIn};
 ghost use Rattle.folding.specs.Best.{BestForHeight, BestForWidth, UnmeetableHeight, UnmeetableWidth};
 ghost use Rattle.folding.specs.Calls.{measuredAnswer};
-ghost use Rattle.layout.specs.Layout.{layoutOf};
 ghost use Rattle.fold.specs.Calls.{foldChecks, Searched, Answered, ToHeight, ToWidth};
-ghost use Rattle.fold.specs.Inner.{Plannable, FirstLists, bestAt, Written, LeastFor};
+ghost use Rattle.fold.specs.Inner.{Plannable, FirstLists, bestAt, Written, LeastFor, Halving};
 use folding::Measured;
 use folding::Outline;
 use terms::Counted;
@@ -105,13 +104,21 @@ fn write_best(
     })
 }
 
-// The least height for which the best layout is at most so many slices wide, by halving.
-fn least_height(kind: Kind, most: u32, h: &[u16], w: &[u16], g: &[u16], work: &mut [u32]) -> u32
-    requires { ⌜ Plannable kind (now h) (now w) (now g) (now work) × (most ≤ 2000000) × (layoutOf kind 2000000 0 (componentsIn (now h) (now w) (now g)) .width ≤ most) ⌝ }
+// The least height for which the best layout is at most so many slices wide, by halving below one for which it is.
+fn least_height(
+    kind: Kind,
+    most: u32,
+    top: u32,
+    h: &[u16],
+    w: &[u16],
+    g: &[u16],
+    work: &mut [u32],
+) -> u32
+    requires { ⌜ Plannable kind (now h) (now w) (now g) (now work) × (most ≤ 2000000) × Halving kind (componentsIn (now h) (now w) (now g)) most 1 top ⌝ }
     ensures { λ r. ⌜ LeastFor kind (componentsIn (now (h .entry)) (now (w .entry)) (now (g .entry))) most r ⌝ }
 {
     let mut lo = 1;
-    let mut hi = 2000000;
+    let mut hi = top;
     while lo < hi {
         let mid = lo + (hi - lo) / 2;
         let o = outline_at(kind, mid, h, w, g, work);
@@ -141,7 +148,7 @@ fn write_slim(
     if most < o.width.0 {
         return Measured::Refused(Refusal::Unmeetable);
     }
-    let limit = least_height(kind, most, h, w, g, work);
+    let limit = least_height(kind, most, o.height.0, h, w, g, work);
     write_best(kind, limit, h, w, g, out, work)
 }
 

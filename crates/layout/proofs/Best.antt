@@ -143,3 +143,12 @@ module _ (kind : Kind) (cs : List Component) (few : length cs ≤ 256) (s : AllS
           let f = r .1 in
           let k : outlineOf cs (r .0) .height .0 ≤ lim′ = omega (arith, f .height, met-keeps kind lim 0 cs few s n) in
           omega (arith, f .width, no-wider (layoutOf kind lim′ 0 cs) _ _ (every-legal lim′ (r .0) (folds-legal (r .0) _ _ f) k .0))
+
+  -- A layout's own height is limit enough for its width.
+  pub own-height : (lim : ℕ) → layoutOf kind lim 0 cs .width < none → layoutOf kind (layoutOf kind lim 0 cs .height) 0 cs .width ≤ layoutOf kind lim 0 cs .width
+  own-height lim n =
+      let r = reach kind lim 0 0 cs few s n in
+      let f = r .1 in
+      let h = layoutOf kind lim 0 cs .height in
+      let k : outlineOf cs (r .0) .height .0 ≤ h = omega (arith, f .height) in
+      omega (arith, f .width, no-wider (layoutOf kind h 0 cs) _ _ (every-legal h (r .0) (folds-legal (r .0) _ _ f) k .0))

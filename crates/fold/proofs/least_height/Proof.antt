@@ -2,7 +2,7 @@ use Prim.Native.Nat.{_-_}
 use lib.ListN.{length}
 use Rattle.terms.specs.Component.{componentsIn}
 use Rattle.fold.specs.Inner.{Halving}
-use Rattle.fold.proofs.Limits.{starts, lower, raise, found}
+use Rattle.fold.proofs.Limits.{lower, raise, found}
 use Rattle.fold.proofs.Held.{stacked}
 use native.Mathlib.Omega.{arith}
 use mathlib.Core.Path.{_≡_, refl, _∙_}
@@ -11,13 +11,13 @@ use Rattle.fold.proofs.least_height.Statement.{statement}
 use Rattle.fold.proofs.least_height.Tie as tie
 
 abbrev Inv-loop : tie.InvT-loop
-Inv-loop kind most h w g work₀ lo₀ hi₀ work lo hi = Halving kind (componentsIn h w g) most lo hi × (length work ≡ length work₀)
+Inv-loop kind most top h w g work₀ lo₀ hi₀ work lo hi = Halving kind (componentsIn h w g) most lo hi × (length work ≡ length work₀)
 
 abbrev μ-loop : tie.MeasureT-loop
-μ-loop kind most h w g work₀ lo₀ hi₀ work lo hi = hi - lo
+μ-loop kind most top h w g work₀ lo₀ hi₀ work lo hi = hi - lo
 
 loop-holds : tie.Need-loop-holds Inv-loop μ-loop
-loop-holds c = (starts _ _ (stacked _ _ _ _ (c .before .before .before .before .pre .0 .lists) (c .before .before .before .before .pre .0 .some)) _ (c .before .before .before .before .pre .1) (c .before .before .before .before .pre .2), refl)
+loop-holds c = (c .before .before .before .before .pre .2, refl)
 
 sub-mid : tie.Need-sub-mid Inv-loop μ-loop
 sub-mid c = search needs

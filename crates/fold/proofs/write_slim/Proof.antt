@@ -1,4 +1,4 @@
-use Rattle.fold.proofs.Limits.{too-wide, within-all, to-width}
+use Rattle.fold.proofs.Limits.{too-wide, starts, to-width}
 use Rattle.fold.proofs.Held.{stacked}
 use Rattle.folding.specs.Calls.{measuredAnswer}
 use native.Mathlib.Omega.{arith}
@@ -17,10 +17,10 @@ returns : tie.Need-returns
 returns c = too-wide _ _ (stacked _ _ _ _ (c .before .before .before .before .before .before .before .before .before .before .before .pre .0 .lists) (c .before .before .before .before .before .before .before .before .before .before .before .pre .0 .some)) _ (c .before .before .before .before .before .before .before .before .before .before .before .pre .1) _ _ (c .before .before .before .before .outline-at .ensures) (c .if1 .taken)
 
 least-height-requires : tie.Need-least-height-requires
-least-height-requires c κs = (record { lists = c .before .before .before .before .before .before .before .before .before .before .before .before .pre .0 .lists; some = c .before .before .before .before .before .before .before .before .before .before .before .before .pre .0 .some; room = omega (arith, c .before .before .before .before .before .outline-at .kept .1 .1 .1 .1 .1 .0, c .before .before .before .before .before .before .before .before .before .before .before .before .pre .0 .room) }, c .before .before .before .before .before .before .before .before .before .before .before .before .pre .1, within-all _ _ (stacked _ _ _ _ (c .before .before .before .before .before .before .before .before .before .before .before .before .pre .0 .lists) (c .before .before .before .before .before .before .before .before .before .before .before .before .pre .0 .some)) _ (c .before .before .before .before .before .before .before .before .before .before .before .before .pre .1) _ (c .before .before .before .before .before .outline-at .ensures) (c .before .if1 .left))
+least-height-requires c κs = (record { lists = c .before .before .before .before .before .before .before .before .before .before .before .before .pre .0 .lists; some = c .before .before .before .before .before .before .before .before .before .before .before .before .pre .0 .some; room = omega (arith, c .before .before .before .before .before .outline-at .kept .1 .1 .1 .1 .1 .0, c .before .before .before .before .before .before .before .before .before .before .before .before .pre .0 .room) }, c .before .before .before .before .before .before .before .before .before .before .before .before .pre .1, starts _ _ (stacked _ _ _ _ (c .before .before .before .before .before .before .before .before .before .before .before .before .pre .0 .lists) (c .before .before .before .before .before .before .before .before .before .before .before .before .pre .0 .some)) _ (c .before .before .before .before .before .before .before .before .before .before .before .before .pre .1) _ (c .before .before .before .before .before .outline-at .ensures) (c .before .if1 .left))
 
 write-best-requires : tie.Need-write-best-requires
-write-best-requires c κs = (record { lists = c .before .before .before .before .before .before .before .before .before .before .before .before .before .before .before .before .before .pre .0 .lists; some = c .before .before .before .before .before .before .before .before .before .before .before .before .before .before .before .before .before .pre .0 .some; room = omega (arith, c .before .before .before .before .before .before .before .before .before .before .outline-at .kept .1 .1 .1 .1 .1 .0, c .before .before .before .before .least-height .kept .1 .1 .1 .1 .1 .0, c .before .before .before .before .before .before .before .before .before .before .before .before .before .before .before .before .before .pre .0 .room) }, c .before .before .before .before .least-height .ensures .most, c .before .before .before .before .before .before .before .before .before .before .before .before .before .before .before .before .before .pre .2)
+write-best-requires c κs = (record { lists = c .before .before .before .before .before .before .before .before .before .before .before .before .before .before .before .before .before .pre .0 .lists; some = c .before .before .before .before .before .before .before .before .before .before .before .before .before .before .before .before .before .pre .0 .some; room = omega (arith, c .before .before .before .before .before .before .before .before .before .before .outline-at .kept .1 .1 .1 .1 .1 .0, c .before .before .before .before .least-height .kept .1 .1 .1 .1 .1 .1 .0, c .before .before .before .before .before .before .before .before .before .before .before .before .before .before .before .before .before .pre .0 .room) }, c .before .before .before .before .least-height .ensures .most, c .before .before .before .before .before .before .before .before .before .before .before .before .before .before .before .before .before .pre .2)
 
 same-length-2 : tie.Need-same-length-2
 same-length-2 c = search needs
