@@ -16,7 +16,8 @@ use Rattle.folding.specs.declared.Placement.{Placement}
 use Rattle.folding.specs.Best.{BestForHeight, UnmeetableHeight}
 use Rattle.folding.proofs.Measuring.{components-held}
 use Rattle.fold.specs.Calls.{foldChecks, validOf, Searched, Answered}
-use Rattle.fold.specs.Inner.{Plannable, FirstLists, Written}
+use Rattle.plan.specs.Asks.{Plannable}
+use Rattle.fold.specs.Inner.{FirstLists, Written}
 use Rattle.fold.proofs.Checks.{Lent, lent, refused-alike, all-well}
 use Rattle.fold.proofs.Held.{Stacked, stacked}
 use Rattle.fold.proofs.Limits.{to-height}

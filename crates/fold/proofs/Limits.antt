@@ -14,7 +14,8 @@ use Rattle.layout.proofs.Reach.{met-keeps}
 use Rattle.layout.proofs.Table.{layout-high}
 use Rattle.group.specs.Group.{none}
 use Rattle.fold.specs.Calls.{Searched}
-use Rattle.fold.specs.Inner.{bestAt, Written, LeastFor, Halving}
+use Rattle.plan.specs.Asks.{bestAt}
+use Rattle.fold.specs.Inner.{Written, LeastFor, Halving}
 use Rattle.fold.proofs.Held.{Stacked}
 
 module _ (kind : Kind) (cs : List Component) (s : Stacked cs) where

@@ -12,30 +12,15 @@ use Rattle.group.specs.Group.{none}
 use Rattle.layout.specs.Layout.{layoutOf}
 use Rattle.layout.specs.Plan.{Planned}
 use Rattle.layout.specs.Table.{outline}
-use Rattle.plan.specs.Asks.{PlanAsks}
 use Rattle.trace.specs.Trace.{TraceAsks, Traced}
-use Rattle.fold.specs.Inner.{Plannable, bestAt, Written}
+use Rattle.plan.specs.Asks.{Plannable}
+use Rattle.plan.proofs.Outlines.{planned-outline}
+use Rattle.fold.specs.Inner.{Written}
 
 module _ (kind : Kind) (limit : ℕ) (hs ws gs work : List ℕ) (a : Plannable kind hs ws gs work) (most : limit ≤ 2000000) where
-  pub plan-asks : (widths heights ends : List ℕ) → length widths ≡ 257 → length heights ≡ 257 → length ends ≡ 257 → PlanAsks kind limit hs ws gs widths heights ends work
-  plan-asks widths heights ends u v w =
-      let f : length hs ≤ 256 = omega (arith, a .lists .few, most-256 kind) in
-      record {
-        lists = a .lists;
-        some = a .some;
-        limit-most = most;
-        widths-long = omega arith;
-        heights-long = omega arith;
-        ends-long = omega arith;
-        room = a .room;
-      }
-
   module _ (widths heights ends : List ℕ) (p : Planned kind limit 0 (componentsIn hs ws gs) widths heights ends) where
     width-is : getD widths 0 0 ≡ layoutOf kind limit 0 (componentsIn hs ws gs) .width
     width-is = p .at 0 (omega arith) .width-is
-
-    pub planned-outline : outline (getD widths 0 0) (getD heights 0 0) ≡ bestAt kind limit (componentsIn hs ws gs)
-    planned-outline = rw (width-is, p .at 0 (omega arith) .height-is)
 
     pub unmet : none ≤ getD widths 0 0 → none ≤ layoutOf kind limit 0 (componentsIn hs ws gs) .width
     unmet h = omega (arith, width-is)
@@ -61,4 +46,4 @@ module _ (kind : Kind) (limit : ℕ) (hs ws gs work : List ℕ) (a : Plannable k
           }
 
       pub written : (out′ : List ℕ) → Traced kind 0 0 (componentsIn hs ws gs) widths ends out out′ → Written kind (componentsIn hs ws gs) limit out out′ (result (outline (getD widths 0 0) (getD heights 0 0)))
-      written out′ t = (planned-outline, met, t .folds limit heights (record { planned = p; met = met }), t .beyond, t .long)
+      written out′ t = (planned-outline kind limit hs ws gs work a most widths heights ends p, met, t .folds limit heights (record { planned = p; met = met }), t .beyond, t .long)

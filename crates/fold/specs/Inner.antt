@@ -11,14 +11,8 @@ use Rattle.folding.specs.Placement.{placementsOf}
 use Rattle.group.specs.Group.{none}
 use Rattle.layout.specs.Layout.{layoutOf}
 use Rattle.layout.specs.Plan.{StackLists}
-use Rattle.layout.specs.Table.{outline}
 use Rattle.layout.proofs.Folds.{Folds}
-
--- A stack in three lists, with room to plan it.
-pub record Plannable (kind : Kind) (hs ws gs work : List ℕ) : Type 0 where
-  pub lists : StackLists kind hs ws gs
-  pub some : 0 < length hs
-  pub room : 8192 ≤ length work
+use Rattle.plan.specs.Asks.{bestAt}
 
 -- A stack that stands in the first n entries of three lists.
 pub record FirstLists (kind : Kind) (n : ℕ) (hs ws gs : List ℕ) : Type 0 where
@@ -27,10 +21,6 @@ pub record FirstLists (kind : Kind) (n : ℕ) (hs ws gs : List ℕ) : Type 0 whe
   pub gaps-long : n ≤ length gs
   pub some : 0 < n
   pub lists : StackLists kind (take n hs) (take n ws) (take n gs)
-
--- The outline of the best layout for the limit.
-abbrev pub bestAt : Kind → ℕ → List Component → Outline
-bestAt kind limit cs = outline (layoutOf kind limit 0 cs .width) (layoutOf kind limit 0 cs .height)
 
 -- A folding with that outline is written where there is one.
 abbrev pub Written : Kind → List Component → ℕ → List ℕ → List ℕ → Answer Outline → Type 0

@@ -7,7 +7,8 @@ ghost use Rattle.terms.specs.Component.{componentsIn};
 ghost use Rattle.folding.specs.Best.{BestForHeight, BestForWidth, UnmeetableHeight, UnmeetableWidth};
 ghost use Rattle.folding.specs.Calls.{measuredAnswer};
 ghost use Rattle.fold.specs.Calls.{foldChecks, Searched, Answered, ToHeight, ToWidth};
-ghost use Rattle.fold.specs.Inner.{Plannable, FirstLists, bestAt, Written, LeastFor, Halving};
+ghost use Rattle.fold.specs.Inner.{FirstLists, Written, LeastFor, Halving};
+ghost use Rattle.plan.specs.Asks.{Plannable};
 use folding::Measured;
 use folding::Outline;
 use terms::Counted;
@@ -33,38 +34,6 @@ fn check_lent(n: usize, limit: u32, out: usize, work: usize) -> Counted
         return Counted::Refused(Refusal::ShortBuffer);
     }
     Counted::Components(n)
-}
-
-// The outline of the best layout for a height. A width of 4,000,000 means that there is none.
-pub fn outline_at(
-    kind: Kind,
-    limit: u32,
-    h: &[u16],
-    w: &[u16],
-    g: &[u16],
-    work: &mut [u32],
-) -> Outline
-    requires { ⌜ Plannable kind (now h) (now w) (now g) (now work) × (limit ≤ 2000000) ⌝ }
-    ensures { λ r. ⌜ r ≡ bestAt kind limit (componentsIn (now (h .entry)) (now (w .entry)) (now (g .entry))) ⌝ }
-{
-    let mut widths = [0u32; 257];
-    let mut heights = [0u32; 257];
-    let mut ends = [0u32; 257];
-    plan::plan(
-        kind,
-        limit,
-        h,
-        w,
-        g,
-        &mut widths,
-        &mut heights,
-        &mut ends,
-        work,
-    );
-    Outline {
-        width: Slices(widths[0]),
-        height: Rows(heights[0]),
-    }
 }
 
 // Writes a folding with the outline of the best layout for a height.
@@ -121,7 +90,7 @@ fn least_height(
     let mut hi = top;
     while lo < hi {
         let mid = lo + (hi - lo) / 2;
-        let o = outline_at(kind, mid, h, w, g, work);
+        let o = plan::outline_at(kind, mid, h, w, g, work);
         if o.width.0 <= most {
             hi = mid;
         } else {
@@ -144,7 +113,7 @@ fn write_slim(
     requires { ⌜ Plannable kind (now h) (now w) (now g) (now work) × (most ≤ 2000000) × (3 * length (now h) ≤ length (now out)) ⌝ }
     ensures { λ r. ⌜ Searched BestForWidth UnmeetableWidth kind (componentsIn (now (h .entry)) (now (w .entry)) (now (g .entry))) most (now (out .entry)) (now (out .exit)) (measuredAnswer r) ⌝ }
 {
-    let o = outline_at(kind, 2000000, h, w, g, work);
+    let o = plan::outline_at(kind, 2000000, h, w, g, work);
     if most < o.width.0 {
         return Measured::Refused(Refusal::Unmeetable);
     }

@@ -20,7 +20,8 @@ use Rattle.layout.specs.Table.{outlines}
 use Rattle.layout.proofs.Reach.{met-keeps}
 use Rattle.layout.proofs.Table.{layout-high, table}
 use Rattle.layout.proofs.Fuel.{outlines-next, outlines-done, outlines-length}
-use Rattle.fold.specs.Inner.{Plannable, FirstLists, bestAt}
+use Rattle.plan.specs.Asks.{Plannable, bestAt}
+use Rattle.fold.specs.Inner.{FirstLists}
 use Rattle.fold.proofs.Held.{Stacked}
 use Rattle.fold_table.specs.Calls.{workCheck, tableValidOf, pairsOf, Tabled, TableAnswered}
 use Rattle.fold_table.specs.Inner.{outlinesTo, allOutlines, CountedTo, WrittenTo}
@@ -53,11 +54,6 @@ module _ (new put : List ℕ) (at a b : ℕ) (fits : at + 2 ≤ length new) (p :
 
   put-long : length put ≡ length new
   put-long = ap length parts ∙ omega (arith, length-append (take at new ++ (a ∷ b ∷ [])) (drop (at + 2) new), front-long, length-drop (at + 2) new)
-
-pairs-length : (os : List Outline) → length (pairsOf os) ≡ 2 * length os
-unfolding pairsOf
-pairs-length [] = refl
-pairs-length (o ∷ os) = omega (arith, pairs-length os)
 
 pub none-to : (kind : Kind) (cs : List Component) (limit : ℕ) → limit ≤ 0 → outlinesTo kind cs limit ≡ []
 unfolding outlines

@@ -4,7 +4,8 @@ ghost use mathlib.Core.List.{_∷_, _++_};
 ghost use Prim.Native.Nat.{_+_, _*_, _≤_, _<_};
 ghost use lib.ListN.{length, take, drop};
 ghost use Rattle.terms.specs.Component.{componentsIn};
-ghost use Rattle.fold.specs.Inner.{Plannable, FirstLists};
+ghost use Rattle.fold.specs.Inner.{FirstLists};
+ghost use Rattle.plan.specs.Asks.{Plannable};
 ghost use Rattle.fold_table.specs.Calls.{listedAnswer, workCheck, pairsOf, Tabled, TableAnswered, TableOf};
 ghost use Rattle.fold_table.specs.Inner.{allOutlines};
 use folding::Outline;
@@ -25,7 +26,7 @@ fn count(kind: Kind, h: &[u16], w: &[u16], g: &[u16], work: &mut [u32]) -> usize
     let mut limit = 2000000;
     let mut n = 0;
     while 0 < limit {
-        let o = fold::outline_at(kind, limit, h, w, g, work);
+        let o = plan::outline_at(kind, limit, h, w, g, work);
         if 4000000 <= o.width.0 {
             return n;
         }
@@ -51,7 +52,7 @@ fn write_table(kind: Kind, h: &[u16], w: &[u16], g: &[u16], out: &mut [u32], wor
     let mut rows = 2000000;
     let mut at = 0;
     while 0 < rows {
-        let o = fold::outline_at(kind, rows, h, w, g, work);
+        let o = plan::outline_at(kind, rows, h, w, g, work);
         if 4000000 <= o.width.0 {
             return;
         }

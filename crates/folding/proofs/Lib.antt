@@ -10,3 +10,4 @@ pub mod Walk
 pub mod Measuring
 pub mod Choosing
 pub mod Renumber
+pub mod Flat

@@ -22,13 +22,10 @@ use Rattle.folding.specs.Placement.{placementAt, placementsOf}
 use Rattle.folding.specs.Calls.{measureIn, measureOf}
 use Rattle.folding_structs.specs.Flat.{none}
 use Rattle.folding.specs.Placement.{flatOf}
+use Rattle.folding.proofs.Flat.{flat-length}
 
 order : (a b : ℕ) → (a ≤ b) ⊎ (b < a)
 order a b = elim (decLe a b) [ yes h ↦ inl h | no h ↦ inr (omega arith) ]
-
-flat-length : (ps : List Placement) → length (flatOf ps) ≡ 3 * length ps
-flat-length [] = refl
-flat-length (p ∷ ps) = omega (arith, flat-length ps)
 
 -- The placement at i of the flat numbers is that of the slice.
 flat-at : (ps : List Placement) (i : ℕ) → i < length ps → placementAt (flatOf ps) i ≡ getD ps i none

@@ -1,5 +1,5 @@
 -- The flat numbers in the buffer, placement after placement.
-use mathlib.Core.Path.{_≡_, refl, _∙_, ap}
+use mathlib.Core.Path.{_≡_, _∙_, ap}
 use Prim.Native.Nat.{ℕ, suc, _+_, _≤_, _<_}
 use native.Mathlib.Omega.{arith}
 use mathlib.Core.List.{List, [], _∷_, _++_, append-assoc}
@@ -8,6 +8,7 @@ use lib.Seq.{take-suc, take-suc-set}
 use Rattle.folding.specs.declared.Placement.{Placement}
 use Rattle.folding_structs.specs.Flat.{none}
 use Rattle.folding.specs.Placement.{flatOf}
+use Rattle.folding.proofs.Flat.{flat-append}
 
 one : (a : List ℕ) (n m x : ℕ) → m ≡ suc n → n < length a → take m (set a n x) ≡ take n a ++ (x ∷ [])
 one a n m x e h = ap (λ (k : ℕ). take k (set a n x)) e ∙ take-suc-set a n x h
@@ -18,10 +19,6 @@ three a n x y z h =
     one (set (set a n x) (n + 1) y) (n + 2) (n + 3) z (omega arith) (simp length-set (omega arith))
     ∙ ap (λ (l : List ℕ). l ++ (z ∷ [])) (one (set a n x) (n + 1) (n + 2) y (omega arith) (simp length-set (omega arith)) ∙ ap (λ (l : List ℕ). l ++ (y ∷ [])) (one a n (n + 1) x (omega arith) (omega arith)))
     ∙ append-assoc (take n a ++ (x ∷ [])) (y ∷ []) (z ∷ []) ∙ append-assoc (take n a) (x ∷ []) (y ∷ z ∷ [])
-
-flat-append : (ps qs : List Placement) → flatOf (ps ++ qs) ≡ flatOf ps ++ flatOf qs
-flat-append [] qs = refl
-flat-append (p ∷ ps) qs = ap (λ (l : List ℕ). p .group ∷ p .side ∷ p .start ∷ l) (flat-append ps qs)
 
 -- One placement more.
 pub flat-next : (ps : List Placement) (i : ℕ) → i < length ps → flatOf (take (i + 1) ps) ≡ flatOf (take i ps) ++ (getD ps i none .group ∷ getD ps i none .side ∷ getD ps i none .start ∷ [])

@@ -1,14 +1,11 @@
 -- The placements of a group with a fold point reach the least height; at the least width for a height they have that width.
-use Prim.Native.Nat.{ℕ, zero, suc, _+_, _*_, _≤_, _<_, max}
+use Prim.Native.Nat.{ℕ, suc, _+_, _*_, _≤_, _<_, max}
 use mathlib.Core.Path.{_≡_, refl, sym, ap, _∙_, subst}
 use mathlib.Core.List.{List, [], _∷_, reverseAux, map, append-nil}
-use mathlib.Core.Bool.{Bool, true, false, cond}
 use native.Mathlib.Nat.{le-antisymm}
 use native.Mathlib.Omega.{arith}
 use lib.ListN.{length, take, drop, length-reverseAux, length-take, length-drop}
 use lib.Seq.{drop-length}
-use lib.Dec.{leb}
-use borrow.Author.Tests.{leb-true}
 use Rattle.terms.specs.declared.Component.{Component}
 use Rattle.terms.specs.declared.Kind.{Kind}
 use Rattle.terms.specs.declared.Kind.the-variants.{Nested}
@@ -19,8 +16,9 @@ use Rattle.folding.specs.Placement.{placedOf}
 use Rattle.folding.specs.Outline.{groupWidth, groupHeight}
 use Rattle.folding.proofs.Sides.{Fronted}
 use Rattle.group.specs.Rows.{tall, rows, place}
-use Rattle.group.specs.Group.{none, leftSide, rightSide, gapAfter, widest, flatHeight, foldHeight, leastHeight, firstFrom, leastWidth, FoldPoint, nowhere, behind, onLeft, onRight, groupPlaces}
+use Rattle.group.specs.Group.{none, leftSide, rightSide, gapAfter, widest, flatHeight, foldHeight, leastHeight, leastWidth, FoldPoint, nowhere, behind, onLeft, onRight, groupPlaces}
 use Rattle.group.proofs.Chains.{reached}
+use Rattle.group.proofs.First.{first-met}
 use Rattle.group.proofs.Sides.{twice, both-sides, tall-sides, widest-sides}
 use Rattle.group.proofs.Lower.{componentsOf, Measured, measured, least-width}
 use Rattle.group.proofs.Falls.{rows-most}
@@ -50,6 +48,10 @@ whole-places m c l r =
       stacked-length 0 (rows c 0 0 l r) l (s .on-left) (q .left-stacked),
       stacked-length 0 (rows c 0 0 l r) r (s .on-right) (q .right-stacked),
     )
+
+pub places-length : (c : ℕ) (cs : List Component) (m p : ℕ) → length (groupPlaces c cs m p) ≡ length cs
+unfolding groupPlaces
+places-length c cs m p = whole-places m c (leftSide p cs) (rightSide p cs) ∙ ap length (both-sides p cs)
 
 rows-flat : (c : ℕ) (l : List Component) → rows c 0 0 l [] ≡ tall l
 unfolding rows tall
@@ -136,34 +138,12 @@ pub record GroupFolds (kind : Kind) (m g0 : ℕ) (cs : List Component) (ps : Lis
   pub height : groupHeight g0 (placedOf cs ps) ≡ h
 
 -- Where there is a least width, it is one at which the limit is kept.
-first-found : (f : ℕ → ℕ) (limit c n : ℕ) → firstFrom f limit c n < none → (f (firstFrom f limit c n) ≤ limit) × (c ≤ firstFrom f limit c n) × (firstFrom f limit c n < c + n)
-unfolding firstFrom
-first-found f limit c zero h = absurd (omega arith)
-first-found f limit c (suc n) h = go (leb (f c) limit) refl (first-found f limit (suc c) n) h
-  where
-    go : (b : Bool) → leb (f c) limit ≡ b → (firstFrom f limit (suc c) n < none → (f (firstFrom f limit (suc c) n) ≤ limit) × (suc c ≤ firstFrom f limit (suc c) n) × (firstFrom f limit (suc c) n < suc c + n))
-        → cond b c (firstFrom f limit (suc c) n) < none
-        → (f (cond b c (firstFrom f limit (suc c) n)) ≤ limit) × (c ≤ cond b c (firstFrom f limit (suc c) n)) × (cond b c (firstFrom f limit (suc c) n) < c + suc n)
-    go true q i k = (leb-true _ _ q, omega arith, omega arith)
-    go false q i k = let j = i k in (j .0, omega (arith, j .1), omega (arith, j .2))
-
-widest-most : (cs : List Component) → AllSized cs → widest cs ≤ 4000
-unfolding widest
-widest-most [] s = omega arith
-widest-most (x ∷ cs) s = omega (arith, s .0 .width-most, widest-most cs (s .1))
-
 module _ (kind : Kind) (g0 : ℕ) (cs : List Component) (limit : ℕ) (w : leastWidth kind g0 cs limit < none) where
   pub least-keeps : leastHeight kind g0 cs (leastWidth kind g0 cs limit) ≤ limit
-  least-keeps = first-found (leastHeight kind g0 cs) limit (widest cs) (suc (widest cs)) w .0
+  least-keeps = first-met (leastHeight kind g0 cs) limit (widest cs) (suc (widest cs)) w .2
 
-  pub least-wide : widest cs ≤ leastWidth kind g0 cs limit
-  least-wide = first-found (leastHeight kind g0 cs) limit (widest cs) (suc (widest cs)) w .1
-
-  pub least-slim : leastWidth kind g0 cs limit ≤ 2 * widest cs
-  least-slim = omega (arith, first-found (leastHeight kind g0 cs) limit (widest cs) (suc (widest cs)) w .2)
-
-  pub least-bound : AllSized cs → leastWidth kind g0 cs limit ≤ 8000
-  least-bound s = omega (arith, least-slim, widest-most cs s)
+  least-wide : widest cs ≤ leastWidth kind g0 cs limit
+  least-wide = first-met (leastHeight kind g0 cs) limit (widest cs) (suc (widest cs)) w .0
 
 fronted-measured : (kind : Kind) (m g0 : ℕ) (g : List Placed) → Fronted kind m g → AllSized (componentsOf g) → Measured kind g0 g
 fronted-measured kind m g0 g f s =

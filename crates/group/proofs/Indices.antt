@@ -71,9 +71,6 @@ module _ (g : ℕ → Component) (n : ℕ) where
   left-pred zero h k = absurd (omega arith)
   left-pred (suc p) h k = let z : suc p - 1 ≡ p = omega arith in rw z (left-suc p k)
 
-  pub left-none : leftSide 0 (tabulate g n) ≡ []
-  left-none = refl
-
   module _ (cap : ℕ) where
     abbrev at : ℕ → ℕ → ℕ → ℕ → ℕ
     at a b p q = rows cap a b (leftSide p (tabulate g n)) (rightSide q (tabulate g n))

@@ -1,5 +1,6 @@
 pub mod Chains
 pub mod Sides
+pub mod First
 pub mod Lower
 pub mod Falls
 pub mod Reach

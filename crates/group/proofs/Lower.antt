@@ -3,12 +3,10 @@ use Prim.Native.Nat.{ℕ, zero, suc, _+_, _-_, _*_, _≤_, _<_, min, max}
 use mathlib.Core.Path.{_≡_, refl, sym, ap, _∙_}
 use mathlib.Core.Logic.{_⊎_, inl, inr}
 use mathlib.Core.List.{List, [], _∷_, reverseAux, map}
-use mathlib.Core.Bool.{Bool, true, false, cond, true≢false}
+use mathlib.Core.Bool.{true, false, true≢false}
 use native.Mathlib.Nat.{eq-or-lt-of-le, le-of-suc-le-suc}
 use native.Mathlib.Omega.{arith}
 use lib.ListN.{length, length-reverseAux}
-use lib.Dec.{leb}
-use borrow.Author.Tests.{leb-false}
 use Rattle.terms.specs.declared.Component.{Component}
 use Rattle.terms.specs.declared.Kind.{Kind}
 use Rattle.terms.specs.declared.Kind.the-variants.{Apart, Nested}
@@ -22,8 +20,9 @@ use Rattle.folding.proofs.Rows.{Tall}
 use Rattle.folding.proofs.Sides.{Chain, Members, sides, flat-height, fold-height}
 use Rattle.folding.proofs.Pairs.{Narrow, FitAll, AllFit, cap-narrow-left, cap-narrow-right, cap-fits, cap-of}
 use Rattle.group.specs.Rows.{gap, tall, rows}
-use Rattle.group.specs.Group.{gapAfter, widest, flatHeight, foldHeight, lowest, leastHeight, firstFrom, leastWidth}
+use Rattle.group.specs.Group.{gapAfter, widest, flatHeight, foldHeight, lowest, leastHeight, leastWidth}
 use Rattle.group.proofs.Chains.{Stacked, ClearOf, AllClear, stacked-tall, nothing-lower}
+use Rattle.group.proofs.First.{first-le}
 use Rattle.group.proofs.Sides.{take-left, left-side, right-side, tall-sides, gap-sides, gap-front, widest-sides}
 
 abbrev pub componentsOf : List Placed → List Component
@@ -198,17 +197,6 @@ pub measured : (kind : Kind) (g0 : ℕ) (x : Placed) (a : List Placed) → left 
 measured kind g0 x a l e r s =
     let d = sides kind [] x a l e r tt tt in
     measured-order kind g0 (groupOf x) (x ∷ a) (d .lowest) (d .lefts) (d .rights) (d .order) (d .left-chain) (d .right-chain) (d .left-members) (d .right-members) s
-
--- The first number from which on a limit is kept.
-pub first-le : (f : ℕ → ℕ) (limit c n k : ℕ) → c ≤ k → k < c + n → f k ≤ limit → firstFrom f limit c n ≤ k
-unfolding firstFrom
-first-le f limit c zero k h g e = absurd (omega arith)
-first-le f limit c (suc n) k h g e = go (leb (f c) limit) refl (first-le f limit (suc c) n k) (eq-or-lt-of-le h)
-  where
-    go : (b : Bool) → leb (f c) limit ≡ b → (suc c ≤ k → k < suc c + n → f k ≤ limit → firstFrom f limit (suc c) n ≤ k) → (c ≡ k) ⊎ (c < k) → cond b c (firstFrom f limit (suc c) n) ≤ k
-    go true q i d = h
-    go false q i (inl d) = absurd (omega (arith, leb-false (f c) limit q, ap f d))
-    go false q i (inr d) = i d (omega arith) e
 
 pub least-width : (kind : Kind) (g0 : ℕ) (g : List Placed) (limit : ℕ) → Measured kind g0 g → groupHeight g0 g ≤ limit → leastWidth kind g0 (componentsOf g) limit ≤ groupWidth g
 least-width kind g0 g limit d h =

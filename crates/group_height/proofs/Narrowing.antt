@@ -1,51 +1,18 @@
 -- Halving finds the least width at which a group is within a limit.
 use Prim.Native.Nat.{ℕ, zero, suc, _+_, _≤_, _<_, max}
 use mathlib.Core.Path.{_≡_, refl, sym, _∙_}
-use mathlib.Core.Logic.{_⊎_, inl, inr}
 use mathlib.Core.List.{List, [], _∷_, _++_}
 use native.Mathlib.Omega.{arith}
 use lib.ListN.{length}
-use borrow.Author.Tests.{le-leb, lt-leb}
 use Rattle.terms.specs.declared.Component.{Component}
 use Rattle.terms.specs.declared.Kind.the-variants.{Nested}
 use Rattle.terms.specs.Component.{tabulate, componentIn, componentsIn}
 use Rattle.group.specs.Rows.{wd}
-use Rattle.group.specs.Group.{none, widest, leastHeight, firstFrom, leastWidth}
+use Rattle.group.specs.Group.{none, widest, leastHeight, leastWidth}
 use Rattle.group.proofs.Chains.{order}
 use Rattle.group_height.specs.Heights.{HeightAsks, WidthAsks, Narrow}
 use Rattle.group.proofs.Falls.{falls}
-
-module _ (f : ℕ → ℕ) (limit : ℕ) where
-  first-here : (c n : ℕ) → f c ≤ limit → firstFrom f limit c (suc n) ≡ c
-  unfolding firstFrom
-  first-here c n h = rw (le-leb (f c) limit h) refl
-
-  first-later : (c n : ℕ) → limit < f c → firstFrom f limit c (suc n) ≡ firstFrom f limit (suc c) n
-  unfolding firstFrom
-  first-later c n h = rw (lt-leb (f c) limit h) refl
-
-  -- The first one is found, and nothing is found where there is none.
-  pub first-found : (n c k : ℕ) → c ≤ k → k < c + n → f k ≤ limit → ((j : ℕ) → c ≤ j → j < k → limit < f j) → firstFrom f limit c n ≡ k
-  first-found zero c k l u h b = absurd (omega arith)
-  first-found (suc n) c k l u h b = go (order k c) (first-found n (suc c) k)
-    where
-      go : (k ≤ c) ⊎ (c < k) → (suc c ≤ k → k < suc c + n → f k ≤ limit → ((j : ℕ) → suc c ≤ j → j < k → limit < f j) → firstFrom f limit (suc c) n ≡ k) → firstFrom f limit c (suc n) ≡ k
-      go (inl e) ih = let z : k ≡ c = omega arith in rw z (first-here c n (rw z at h))
-      go (inr e) ih = first-later c n (b c (omega arith) e) ∙ ih (omega arith) (omega arith) h (λ j p q. b j (omega arith) q)
-
-  pub first-none : (n c : ℕ) → ((j : ℕ) → c ≤ j → j < c + n → limit < f j) → firstFrom f limit c n ≡ none
-  unfolding firstFrom
-  first-none zero c b = refl
-  first-none (suc n) c b = first-later c n (b c (omega arith) (omega arith)) ∙ first-none n (suc c) (λ j l u. b j (omega arith) (omega arith))
-
-  pub first-within : (n c : ℕ) → firstFrom f limit c n < none → f (firstFrom f limit c n) ≤ limit
-  unfolding firstFrom
-  first-within zero c h = absurd (omega arith)
-  first-within (suc n) c h = go (order (f c) limit) (first-within n (suc c))
-    where
-      go : (f c ≤ limit) ⊎ (limit < f c) → (firstFrom f limit (suc c) n < none → f (firstFrom f limit (suc c) n) ≤ limit) → f (firstFrom f limit c (suc n)) ≤ limit
-      go (inl e) ih = rw (first-here c n e) e
-      go (inr e) ih = rw (first-later c n e) (ih (rw (first-later c n e) at h))
+use Rattle.group.proofs.First.{first-met, first-is}
 
 -- The widest component of a group.
 widest-snoc : (l : List Component) (x : Component) → widest (l ++ (x ∷ [])) ≡ max (widest l) (wd x)
@@ -84,7 +51,7 @@ module _ {g0 : ℕ} {hs ws gs es : List ℕ} {limit wide cap : ℕ} (r : WidthAs
   -- Too high even at the cap.
   pub too-high : (v h : ℕ) → v ≡ leastHeight Nested g0 cs cap → limit < v → Narrow g0 hs ws gs limit cap none h
   too-high v h e o = record {
-    within = λ u. absurd (omega (arith, first-within (leastHeight Nested g0 cs) limit (suc (widest cs)) (widest cs) (omega (arith, cap-low)), falls Nested g0 cs (leastWidth Nested g0 cs limit) cap u));
+    within = λ u. absurd (omega (arith, first-met (leastHeight Nested g0 cs) limit (widest cs) (suc (widest cs)) (omega (arith, cap-low)) .2, falls Nested g0 cs (leastWidth Nested g0 cs limit) cap u));
     over = λ u. refl;
   }
 
@@ -110,6 +77,6 @@ module _ {g0 : ℕ} {hs ws gs es : List ℕ} {limit wide cap : ℕ} (r : WidthAs
   pub halved : {old fs : List ℕ} {lo hi v : ℕ} → Halving g0 hs ws gs old fs limit wide cap lo hi v → hi ≤ lo → Narrow g0 hs ws gs limit cap hi v
   halved {old} {fs} {lo} {hi} {v} i h =
       let k : leastWidth Nested g0 cs limit ≡ hi =
-      first-found (leastHeight Nested g0 cs) limit (suc (widest cs)) (widest cs) hi (omega (arith, i .from, i .order, r .is-widest)) (omega (arith, i .to, r .to, r .is-widest)) (omega (arith, i .height, i .within))
+      first-is (leastHeight Nested g0 cs) limit (widest cs) (suc (widest cs)) hi (omega (arith, i .from, i .order, r .is-widest)) (omega (arith, i .to, r .to, r .is-widest)) (omega (arith, i .height, i .within))
       (λ j l u. i .over j (omega (arith, r .is-widest)) (omega arith)) in
       record { within = λ u. (sym k, i .height); over = λ u. absurd (omega (arith, i .to)) }

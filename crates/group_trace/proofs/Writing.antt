@@ -13,7 +13,7 @@ use Rattle.group.specs.Table.{bare}
 use Rattle.folding.specs.Placement.{flatOf}
 use Rattle.group_trace.specs.declared.Turn.{Turn}
 use Rattle.group_trace.specs.Trace.{WriteAsks, TurnAsks, startsOf, Turned}
-use Rattle.group_trace.proofs.Flat.{flat-append, flat-length}
+use Rattle.folding.proofs.Flat.{flat-append, flat-length}
 use Rattle.group_trace.proofs.Sides.{place-none, bare-length, right-end}
 
 -- Three numbers written one after the other.

@@ -23,7 +23,6 @@ use Rattle.layout.proofs.Scan.{NoWorse, no-wider}
 use Rattle.layout.proofs.Lower.{nothing-better}
 use Rattle.layout.proofs.Folds.{Folds, placed-length}
 use Rattle.layout.proofs.Reach.{met-keeps, reach}
-use Rattle.layout.proofs.Bounds.{layouts-fair}
 use Rattle.layout.proofs.Heights.{AllGaps, legal-most, legal-some}
 
 some-height : (kind : Kind) (m g0 : ℕ) (cs : List Component) (ps : List Placement) → 0 < length cs → length ps ≡ length cs → LegalFrom kind m (placedOf cs ps) → AllSized cs
@@ -131,18 +130,6 @@ module _ (kind : Kind) (cs : List Component) (few : length cs ≤ 256) (s : AllS
   unmeetable-width g w n ps l k =
       let e = every-legal 2000000 ps l (legal-low g ps l) in
       absurd (omega (arith, no-wider (layoutOf kind 2000000 0 cs) _ _ (e .0)))
-
-  -- A higher limit never makes the layout wider.
-  pub layout-falls : (lim lim′ : ℕ) → lim ≤ lim′ → layoutOf kind lim′ 0 cs .width ≤ layoutOf kind lim 0 cs .width
-  layout-falls lim lim′ h = go (order none (layoutOf kind lim 0 cs .width))
-    where
-      go : (none ≤ layoutOf kind lim 0 cs .width) ⊎ (layoutOf kind lim 0 cs .width < none) → layoutOf kind lim′ 0 cs .width ≤ layoutOf kind lim 0 cs .width
-      go (inl n) = omega (arith, no-wider (layoutOf kind lim′ 0 cs) none none (layouts-fair kind lim′ 0 cs 0))
-      go (inr n) =
-          let r = reach kind lim 0 0 cs few s n in
-          let f = r .1 in
-          let k : outlineOf cs (r .0) .height .0 ≤ lim′ = omega (arith, f .height, met-keeps kind lim 0 cs few s n) in
-          omega (arith, f .width, no-wider (layoutOf kind lim′ 0 cs) _ _ (every-legal lim′ (r .0) (folds-legal (r .0) _ _ f) k .0))
 
   -- A layout's own height is limit enough for its width.
   pub own-height : (lim : ℕ) → layoutOf kind lim 0 cs .width < none → layoutOf kind (layoutOf kind lim 0 cs .height) 0 cs .width ≤ layoutOf kind lim 0 cs .width

@@ -133,10 +133,6 @@ module _ (kind : Kind) (limit : ℕ) where
   unfolding layouts
   layout-empty g0 = refl
 
-  pub layout-scan : (g0 : ℕ) (x : Component) (cs : List Component) → layoutOf kind limit g0 (x ∷ cs) ≡ scan kind limit g0 (x ∷ cs) (layouts kind limit (gap x) cs) (suc (length cs))
-  unfolding layouts
-  layout-scan g0 x cs = refl
-
   pub layouts-at : (g0 : ℕ) (cs : List Component) (k : ℕ) → 0 < k → k ≤ length cs
       → getD (layouts kind limit g0 cs) k unmet ≡ layoutOf kind limit (gapAfter (take k cs)) (drop k cs)
   unfolding layouts gapAfter

@@ -4,3 +4,4 @@ pub mod Bests
 pub mod Trying
 pub mod Scanning
 pub mod Planning
+pub mod Outlines

@@ -1,4 +1,4 @@
--- What the functions of this crate ask and promise each other. Only `PlanAsks` belongs to a public call.
+-- What the functions of this crate ask and promise each other. `PlanAsks`, `Plannable` and `bestAt` belong to what other crates call.
 use Prim.Native.Nat.{ℕ, zero, suc, _*_, _≤_, _<_}
 use mathlib.Core.Path.{_≡_}
 use mathlib.Core.Logic.{_⊎_}
@@ -9,7 +9,9 @@ use Rattle.terms.specs.declared.Kind.{Kind}
 use Rattle.terms.specs.declared.Kind.the-variants.{Apart, Nested}
 use Rattle.terms.specs.Component.{componentsIn}
 use Rattle.group.specs.Group.{none, widest}
-use Rattle.layout.specs.Layout.{Layout, unmet, scan, layouts}
+use Rattle.folding.specs.declared.Outline.{Outline}
+use Rattle.layout.specs.Layout.{Layout, unmet, scan, layouts, layoutOf}
+use Rattle.layout.specs.Table.{outline}
 use Rattle.layout.specs.Plan.{StackLists, PlannedAt}
 use Rattle.plan.specs.declared.Best.{Best}
 
@@ -82,3 +84,13 @@ gapBefore gs (suc i) = getD gs i 0
 -- The three lists are right from i on.
 pub record PlannedFrom (kind : Kind) (limit : ℕ) (cs : List Component) (widths heights ends : List ℕ) (i : ℕ) : Type 0 where
   pub at : (j : ℕ) → i ≤ j → j ≤ length cs → PlannedAt (getD (layouts kind limit 0 cs) j unmet) (getD widths j 0) (getD heights j 0) (getD ends j 0)
+
+-- A stack in three lists, with room to plan it.
+pub record Plannable (kind : Kind) (hs ws gs work : List ℕ) : Type 0 where
+  pub lists : StackLists kind hs ws gs
+  pub some : 0 < length hs
+  pub room : 8192 ≤ length work
+
+-- The outline of the best layout for the limit.
+abbrev pub bestAt : Kind → ℕ → List Component → Outline
+bestAt kind limit cs = outline (layoutOf kind limit 0 cs .width) (layoutOf kind limit 0 cs .height)

@@ -5,14 +5,17 @@ ghost use Prim.Native.Nat.{ℕ, _+_, _*_, _≤_, _<_, min, max};
 ghost use lib.ListN.{length, getD, take};
 ghost use Rattle.terms.specs.declared.Kind.the-variants.{Apart, Nested};
 ghost use Rattle.terms.specs.Component.{componentsIn};
-ghost use Rattle.group.specs.Rows as Rows;
+ghost use Rattle.group.specs.Rows as Chains;
 ghost use Rattle.layout.specs.Layout.{better, candidate, choice, unmet, layouts, layoutOf};
 ghost use Rattle.layout.specs.Plan.{Planned};
-ghost use Rattle.plan.specs.Asks.{layoutIn, GroupAsks, mostRows, restAt, FirstAsks, FromAsks, PlanAsks, gapBefore};
+ghost use Rattle.plan.specs.Asks.{layoutIn, GroupAsks, mostRows, restAt, FirstAsks, FromAsks, PlanAsks, gapBefore, Plannable, bestAt};
+use folding::Outline;
 use numbers::larger;
 use numbers::lesser;
 use numbers::wide;
 use terms::Kind;
+use terms::Rows;
+use terms::Slices;
 
 // A layout: its width, its height, and how many components its first group has. 4,000,000 in width and height means that there is none.
 pub struct Best {
@@ -74,7 +77,7 @@ fn try_flat(
     best: Best,
     rest: Best,
 ) -> Best
-    requires { ⌜ GroupAsks Apart limit g0 widest (now h) (now w) (now g) best rest × (tall ≡ Rows.tall (componentsIn (now h) (now w) (now g))) × (tall ≤ 4000000) ⌝ }
+    requires { ⌜ GroupAsks Apart limit g0 widest (now h) (now w) (now g) best rest × (tall ≡ Chains.tall (componentsIn (now h) (now w) (now g))) × (tall ≤ 4000000) ⌝ }
     ensures { λ r. ⌜ layoutIn r ≡ choice (candidate Apart limit g0 (componentsIn (now (h .entry)) (now (w .entry)) (now (g .entry))) (layoutIn rest) (length (now (h .entry)))) (layoutIn best) ⌝ }
 {
     let k = h.len();
@@ -144,7 +147,7 @@ fn try_group(
     rest: Best,
     work: &mut [u32],
 ) -> Best
-    requires { ⌜ GroupAsks kind limit g0 widest (now h) (now w) (now g) best rest × (tall ≡ Rows.tall (componentsIn (now h) (now w) (now g))) × (tall ≤ 4000000) × (8192 ≤ length (now work)) ⌝ }
+    requires { ⌜ GroupAsks kind limit g0 widest (now h) (now w) (now g) best rest × (tall ≡ Chains.tall (componentsIn (now h) (now w) (now g))) × (tall ≤ 4000000) × (8192 ≤ length (now work)) ⌝ }
     ensures { λ r. ⌜ layoutIn r ≡ choice (candidate kind limit g0 (componentsIn (now (h .entry)) (now (w .entry)) (now (g .entry))) (layoutIn rest) (length (now (h .entry)))) (layoutIn best) ⌝ }
 {
     match kind {
@@ -168,7 +171,7 @@ fn try_first(
     rest: Best,
     work: &mut [u32],
 ) -> Best
-    requires { ⌜ GroupAsks kind limit g0 widest (take k (now h)) (take k (now w)) (take k (now g)) best rest × (tall ≡ Rows.tall (componentsIn (take k (now h)) (take k (now w)) (take k (now g)))) × (tall ≤ 4000000) × (8192 ≤ length (now work)) ⌝ }
+    requires { ⌜ GroupAsks kind limit g0 widest (take k (now h)) (take k (now w)) (take k (now g)) best rest × (tall ≡ Chains.tall (componentsIn (take k (now h)) (take k (now w)) (take k (now g)))) × (tall ≤ 4000000) × (8192 ≤ length (now work)) ⌝ }
     requires { ⌜ (k ≤ length (now h)) × (k ≤ length (now w)) × (k ≤ length (now g)) ⌝ }
     ensures { λ r. ⌜ layoutIn r ≡ choice (candidate kind limit g0 (componentsIn (take k (now (h .entry))) (take k (now (w .entry))) (take k (now (g .entry)))) (layoutIn rest) k) (layoutIn best) ⌝ }
 {
@@ -301,5 +304,37 @@ pub fn plan(
         widths[i] = b.width;
         heights[i] = b.height;
         ends[i] = b.end;
+    }
+}
+
+// The outline of the best layout for a height. A width of 4,000,000 means that there is none.
+pub fn outline_at(
+    kind: Kind,
+    limit: u32,
+    h: &[u16],
+    w: &[u16],
+    g: &[u16],
+    work: &mut [u32],
+) -> Outline
+    requires { ⌜ Plannable kind (now h) (now w) (now g) (now work) × (limit ≤ 2000000) ⌝ }
+    ensures { λ r. ⌜ r ≡ bestAt kind limit (componentsIn (now (h .entry)) (now (w .entry)) (now (g .entry))) ⌝ }
+{
+    let mut widths = [0u32; 257];
+    let mut heights = [0u32; 257];
+    let mut ends = [0u32; 257];
+    plan(
+        kind,
+        limit,
+        h,
+        w,
+        g,
+        &mut widths,
+        &mut heights,
+        &mut ends,
+        work,
+    );
+    Outline {
+        width: Slices(widths[0]),
+        height: Rows(heights[0]),
     }
 }

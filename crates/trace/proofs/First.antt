@@ -14,7 +14,8 @@ use Rattle.folding.specs.Placement.{placementAt, placementsOf}
 use Rattle.group.specs.Rows.{gap}
 use Rattle.group.specs.Group.{none, gapAfter, leastHeight, leastWidth, FoldPoint, nowhere, behind, groupPlaces}
 use Rattle.folding.specs.Placement.{flatOf}
-use Rattle.group_trace.proofs.Flat.{flat-length, placements-flat}
+use Rattle.folding.proofs.Flat.{flat-length}
+use Rattle.group_trace.proofs.Flat.{placements-flat}
 use Rattle.layout.specs.Layout.{Layout, unmet, layouts, layoutOf}
 use Rattle.layout.specs.Plan.{PlannedAt, Planned}
 use Rattle.layout.proofs.Scan.{layouts-at}

@@ -16,7 +16,8 @@ use Rattle.group.specs.Group.{FoldPoint, groupPlaces}
 use Rattle.group.specs.Table.{bare}
 use Rattle.folding.specs.Placement.{flatOf}
 use Rattle.group.proofs.Bare.{places-bare}
-use Rattle.group_trace.proofs.Flat.{flat-length, places-length}
+use Rattle.folding.proofs.Flat.{flat-length}
+use Rattle.group.proofs.Exact.{places-length}
 use Rattle.layout.specs.Layout.{layoutOf}
 use Rattle.layout.proofs.Scan.{layout-empty}
 use Rattle.layout.proofs.Folds.{Folds, folds-none}
@@ -107,7 +108,7 @@ module _ (kind : Kind) (group g0 : ℕ) (hs ws gs widths ends out work : List �
           ps-long =
               let p = point-within kind g0 (componentsIn (take k hs) (take k ws) (take k gs)) cap (g .at) (omega (arith, group-long, k-some)) (g .point) in
               ap length (sym (places-bare cap group (g .at) (take k hs) (take k ws) (take k gs)))
-              ∙ places-length cap (componentsIn (take k hs) (take k ws) (take k gs)) group (g .at) (p .1) ∙ group-long
+              ∙ places-length cap (componentsIn (take k hs) (take k ws) (take k gs)) group (g .at) ∙ group-long
 
           put-is : put ≡ flatOf ps ++ drop (3 * k) out
           unfolding ps

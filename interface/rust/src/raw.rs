@@ -117,9 +117,11 @@ pub fn choose(file: &[u8], nested: bool, first: &[u32], second: &[u32]) -> u32 {
     }
 }
 
-pub fn to_height(file: &[u8], nested: bool, limit: u32, placements: &mut [u32], work: &mut [u32]) -> Outline {
+type Fold = unsafe extern "C" fn(*const u8, usize, bool, u32, *mut u32, usize, *mut u32, usize) -> Outline;
+
+fn fold(call: Fold, file: &[u8], nested: bool, limit: u32, placements: &mut [u32], work: &mut [u32]) -> Outline {
     unsafe {
-        c::folds_to_height(
+        call(
             file.as_ptr(),
             file.len(),
             nested,
@@ -132,19 +134,12 @@ pub fn to_height(file: &[u8], nested: bool, limit: u32, placements: &mut [u32], 
     }
 }
 
+pub fn to_height(file: &[u8], nested: bool, limit: u32, placements: &mut [u32], work: &mut [u32]) -> Outline {
+    fold(c::folds_to_height, file, nested, limit, placements, work)
+}
+
 pub fn to_width(file: &[u8], nested: bool, limit: u32, placements: &mut [u32], work: &mut [u32]) -> Outline {
-    unsafe {
-        c::folds_to_width(
-            file.as_ptr(),
-            file.len(),
-            nested,
-            limit,
-            placements.as_mut_ptr(),
-            placements.len(),
-            work.as_mut_ptr(),
-            work.len(),
-        )
-    }
+    fold(c::folds_to_width, file, nested, limit, placements, work)
 }
 
 pub fn table(file: &[u8], nested: bool, pairs: &mut [u32], work: &mut [u32]) -> Count {

@@ -1,4 +1,5 @@
-use Rattle.fold.proofs.Planning.{plan-asks, unmet, trace-asks, written}
+use Rattle.fold.proofs.Planning.{unmet, trace-asks, written}
+use Rattle.plan.proofs.Outlines.{plan-asks}
 use mathlib.Core.Path.{refl}
 use borrow.Author.Needs.{needs}
 use borrow.Author.Needs.{needs}

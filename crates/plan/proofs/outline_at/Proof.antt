@@ -1,9 +1,8 @@
-use Rattle.fold.proofs.Planning.{plan-asks, planned-outline}
+use Rattle.plan.proofs.Outlines.{plan-asks, planned-outline}
 use mathlib.Core.Path.{refl}
 use borrow.Author.Needs.{needs}
-use borrow.Author.Needs.{needs}
-use Rattle.fold.proofs.outline_at.Statement.{statement}
-use Rattle.fold.proofs.outline_at.Tie as tie
+use Rattle.plan.proofs.outline_at.Statement.{statement}
+use Rattle.plan.proofs.outline_at.Tie as tie
 
 slice-aggregate-plan : tie.Need-slice-aggregate-plan
 slice-aggregate-plan c = search needs
