@@ -1,9 +1,25 @@
-/* Foldings of a bit-sliced stack: the calls of target/staticlib/libinterface.a (build: rt staticlib interface).
+/* Foldings of a bit-sliced stack: the calls of target/staticlib/libstack_folds.a (build: rt staticlib stack_folds).
  *
- * A stack file is lent as bytes. Its components are numbered 1 to n, from the top of the unfolded stack to its bottom.
- * Heights, gaps and start rows count rows; widths count slices. `nested` is the kind: false for apart, true for nested.
+ * The words, after Paik and Sahni, "Optimal Folding Of Bit Sliced Stacks":
+ *   stack             components one above the other, C1 at the top to Cn at the bottom; their order never changes
+ *   fold              a place behind a component where the stack is turned over, so that it goes on beside itself
+ *   group             a run of components with at most one fold: left ones before it, right ones behind it
+ *   apart, nested     the kinds of folding: apart groups have no right side, nested ones may have one
+ *   outline           the width and the height of the rectangle that a folding needs
+ *   unbeaten outline  one that a legal folding has, where every other is wider, or higher, or equal in both
  *
- * A placement is three numbers: group (from 0), side (0 left, 1 right), start row. A folding is n placements, C1's first.
+ * A stack file is lent as bytes, the low byte of a number first:
+ *   bytes 0 to 2      the letters S, T, K
+ *   bytes 3 and 4     the version, 1
+ *   bytes 5 and 6     the number of components n, 1 to 256
+ *   then six bytes for each component: height (1 to 4,000), width (1 to 4,000), gap (0 to 4,000; the last one's is 0)
+ * Heights, gaps and start rows count rows; widths count slices. A gap is the routing height between a component and the
+ * next one when a fold separates them. Components are numbered 1 to n.
+ *
+ * `nested` is the kind: false for apart, true for nested.
+ *
+ * A placement is three numbers: group (from 0), side (0 left, 1 right), start row (0 to 1,024,000). A folding is n
+ * placements, C1's first.
  *
  * Every call answers every input, damaged ones too. What it asks of its caller is what C asks of every buffer: each
  * pointer is aligned and not null, even where its length is 0; each length counts the elements that are really there;
@@ -23,7 +39,9 @@
  *    9  unmeetable      no legal folding keeps the limit
  *   10  broken folding  the placements are not legal
  *
- * A refusal leaves every buffer lent for results as it was. A result leaves everything past it as it was.
+ * A refusal leaves every buffer lent for results as it was. A result leaves everything past it as it was. What a work
+ * buffer holds afterwards is open after a result, after 9, and after 8 for too long a table; every other refusal leaves
+ * it as it was.
  */
 #ifndef STACK_FOLDS_H
 #define STACK_FOLDS_H
@@ -47,8 +65,21 @@ extern "C" {
 #define FOLDS_UNMEETABLE 9
 #define FOLDS_BROKEN_FOLDING 10
 
+/* The refusal's words; an empty string for 0 and for a number that is no refusal. */
+static inline const char *folds_word(uint32_t refusal) {
+    static const char *const words[] = {
+        "",        "wrong file", "wrong version", "wrong length", "stack size",     "bad component",
+        "bad gap", "bad limit",  "short buffer",  "unmeetable",   "broken folding",
+    };
+    return refusal < sizeof words / sizeof words[0] ? words[refusal] : "";
+}
+
 /* The least length of a work buffer, in numbers of 32 bits. */
 #define FOLDS_WORK 8192
+
+/* So many numbers hold the placements of n components, and the table of every stack of n components. */
+#define FOLDS_PLACEMENTS(n) ((size_t)3 * (n))
+#define FOLDS_PAIRS(n) ((size_t)2 * 4000 * (n))
 
 /* count is the answer where refusal is 0, and is 0 otherwise. */
 typedef struct { uint32_t refusal; size_t count; } folds_count;
@@ -74,7 +105,8 @@ folds_count folds_read(const uint8_t *file, size_t file_len, uint16_t *heights, 
 folds_part folds_lookup(const uint8_t *file, size_t file_len, size_t number);
 
 /* Writes the stack file of the components in three lists. count: the file's length, 7+6n.
- * Writes the first 7+6n bytes of `file`; all beyond stays unchanged.
+ * Writes the first 7+6n bytes of `file`; all beyond stays unchanged. They are the one file that folds_read reads back to
+ * these lists.
  * Refusals: 3 where the lists differ in length, 4, 5, 6; 8 where `file` has under 7+6n bytes. A refusal leaves it as it
  * was. */
 folds_count folds_write(const uint16_t *heights, size_t heights_len, const uint16_t *widths, size_t widths_len,
@@ -106,6 +138,7 @@ folds_outline folds_to_width(const uint8_t *file, size_t file_len, bool nested, 
                              uint32_t *placements, size_t placements_len, uint32_t *work, size_t work_len);
 
 /* Lists the unbeaten outlines as pairs width, height: widths rise and heights fall strictly. count: the number of pairs.
+ * There are never more pairs than the components' widths add up to, so FOLDS_PAIRS(n) numbers are always enough.
  * Writes the first 2*count numbers of pairs; all beyond stays unchanged.
  * Refusals 1 to 6; 8 for a work buffer under FOLDS_WORK, or for more outlines than whole pairs fit.
  * A refusal leaves pairs unchanged; the work buffer too, save that a result and 8 for too long a table leave its

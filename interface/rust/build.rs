@@ -1,4 +1,4 @@
-//! Links libinterface.a, from the folder STACK_FOLDS_LIB or else from where `rt staticlib interface` writes it.
+//! Links libstack_folds.a, from the folder STACK_FOLDS_LIB or else from where `rt staticlib stack_folds` writes it.
 use std::{env, path::PathBuf};
 
 fn main() {
@@ -7,7 +7,7 @@ fn main() {
         None => PathBuf::from(env::var_os("CARGO_MANIFEST_DIR").unwrap()).join("../../target/staticlib"),
     };
     println!("cargo:rustc-link-search=native={}", folder.display());
-    println!("cargo:rustc-link-lib=static=interface");
-    println!("cargo:rerun-if-changed={}", folder.join("libinterface.a").display());
+    println!("cargo:rustc-link-lib=static=stack_folds");
+    println!("cargo:rerun-if-changed={}", folder.join("libstack_folds.a").display());
     println!("cargo:rerun-if-env-changed=STACK_FOLDS_LIB");
 }

@@ -5,6 +5,7 @@ use mathlib.Core.List.{List}
 use mathlib.Core.Bool.{Bool, not, _&&_}
 use lib.ListN.{length, drop}
 use lib.Dec.{leb, ltb}
+use Rattle.terms.specs.Numbers.{mostLimit, leastWork}
 use Rattle.terms.specs.declared.Component.{Component}
 use Rattle.terms.specs.declared.Kind.{Kind}
 use Rattle.terms.specs.Answer.{Answer, refusal, result, refuseIf, andThen}
@@ -16,40 +17,48 @@ use Rattle.folding.specs.Best.{BestForHeight, BestForWidth, UnmeetableHeight, U
 
 -- "H and W are 1 to 2,000,000."
 abbrev pub inLimit : ℕ → Bool
-inLimit x = leb 1 x && leb x 2000000
+inLimit x = leb 1 x && leb x mostLimit
 
--- Refusal 7, "H or W outside its range", then 8, "fewer than n placements, .. a short work buffer" (under 8,192 numbers): what a fold call checks behind the file's own refusals. n is the number of
--- components, `out` and `work` are the lengths of the two lent buffers.
+-- Refusal 8, "a short work buffer".
+abbrev pub workCheck : {A : Type 0} → ℕ → A → Answer A
+workCheck work v = refuseIf (ltb work leastWork) 8 (result v)
+
+-- Refusal 7, "H or W outside its range", then 8, "fewer than n placements, .. a short work buffer": what a fold call checks
+-- behind the file's own refusals. n is the number of components, `out` and `work` are the lengths of the two lent buffers.
 abbrev pub foldChecks : {A : Type 0} → ℕ → ℕ → ℕ → ℕ → A → Answer A
 foldChecks limit out work n v =
     refuseIf (not (inLimit limit)) 7
     (refuseIf (ltb (out / 3) n) 8
-    (refuseIf (ltb work 8192) 8
-    (result v)))
+    (workCheck work v))
 
--- "Input is valid and buffers are long enough for a call where none of its refusals but 9 applies": refusals 1 to 8 in document 01's order, or the stack's components.
+-- "Input is valid and buffers are long enough for a call where none of its refusals but 9 applies": refusals 1 to 8 in
+-- document 01's order, or the stack's components.
 abbrev pub validOf : Kind → List ℕ → ℕ → List ℕ → List ℕ → Answer (List Component)
 validOf kind file limit out work = andThen (checkOf kind file) (λ cs. foldChecks limit (length out) (length work) (length cs) cs)
 
 -- Both calls, for what is best and what is unmeetable by a height or by a width.
 module _ (Best : Kind → List Component → ℕ → List Placement → Outline → Type 0) (Unmeetable : Kind → List Component → ℕ → Type 0) where
-  -- "With valid input and buffers long enough, a limit is refused as unmeetable exactly when no legal folding keeps it, and a folding is returned exactly when one does."
-  -- "the folding that a fold call returns is the first n placements of its buffer"; "Only the first n placements .. are written; all beyond stay unchanged."
+  -- "With valid input and buffers long enough, a limit is refused as unmeetable exactly when no legal folding keeps it, and a
+  -- folding is returned exactly when one does." "the folding that a fold call returns is the first n placements of its buffer";
+  -- "Only the first n placements .. are written; all beyond stay unchanged."
   -- Which legal folding with the fixed outline is written is free.
   abbrev pub Searched : Kind → List Component → ℕ → List ℕ → List ℕ → Answer Outline → Type 0
   Searched kind cs limit out out′ (refusal k) = (k ≡ 9) × Unmeetable kind cs limit × (out′ ≡ out)
   Searched kind cs limit out out′ (result o) =
       Best kind cs limit (placementsOf out′ (length cs)) o × (drop (3 * length cs) out′ ≡ drop (3 * length cs) out) × (length out′ ≡ length out)
 
-  -- "a refusal leaves every buffer lent for results unchanged", "and so is the work buffer where its content is not free": it is free "after a result or refusal 9".
+  -- "a refusal leaves every buffer lent for results unchanged", "and so is the work buffer where its content is not free": it is
+  -- free "after a result or refusal 9".
   abbrev pub Answered : Kind → ℕ → List ℕ → List ℕ → List ℕ → List ℕ → Answer Outline → Answer (List Component) → Type 0
   Answered kind limit out work out′ work′ answer (refusal k) = (answer ≡ refusal k) × (out′ ≡ out) × (work′ ≡ work)
   Answered kind limit out work out′ work′ answer (result cs) = Searched kind cs limit out out′ answer
 
 -- "Fold to height H: writes a legal folding of height at most H; the outline is the narrowest, and of those the lowest."
 abbrev pub ToHeight : Kind → List ℕ → ℕ → List ℕ → List ℕ → Answer Outline → List ℕ → List ℕ → Type 0
-ToHeight kind file limit out work answer out′ work′ = Answered BestForHeight UnmeetableHeight kind limit out work out′ work′ answer (validOf kind file limit out work)
+ToHeight kind file limit out work answer out′ work′ =
+    Answered BestForHeight UnmeetableHeight kind limit out work out′ work′ answer (validOf kind file limit out work)
 
 -- "Fold to width W: width at most W; the lowest, and of those the narrowest."
 abbrev pub ToWidth : Kind → List ℕ → ℕ → List ℕ → List ℕ → Answer Outline → List ℕ → List ℕ → Type 0
-ToWidth kind file limit out work answer out′ work′ = Answered BestForWidth UnmeetableWidth kind limit out work out′ work′ answer (validOf kind file limit out work)
+ToWidth kind file limit out work answer out′ work′ =
+    Answered BestForWidth UnmeetableWidth kind limit out work out′ work′ answer (validOf kind file limit out work)

@@ -3,16 +3,20 @@ use Prim.Native.Nat.{ℕ, _+_, _*_, _≤_, _<_}
 use mathlib.Core.Path.{_≡_}
 use mathlib.Core.List.{List}
 use lib.ListN.{length, take, drop}
+use Rattle.terms.specs.Numbers.{mostLimit}
 use Rattle.terms.specs.declared.Component.{Component}
 use Rattle.terms.specs.declared.Kind.{Kind}
 use Rattle.terms.specs.Answer.{Answer, refusal, result}
+use Rattle.terms.specs.Component.{componentsIn}
 use Rattle.folding.specs.declared.Outline.{Outline}
+use Rattle.folding.specs.declared.Placement.{Placement}
 use Rattle.folding.specs.Placement.{placementsOf}
 use Rattle.group.specs.Group.{none}
 use Rattle.layout.specs.Layout.{layoutOf}
 use Rattle.layout.specs.Plan.{StackLists}
 use Rattle.layout.proofs.Folds.{Folds}
-use Rattle.plan.specs.Asks.{bestAt}
+use Rattle.plan.specs.Asks.{Plannable, bestAt}
+use Rattle.fold.specs.Calls.{foldChecks, Answered}
 
 -- A stack that stands in the first n entries of three lists.
 pub record FirstLists (kind : Kind) (n : ℕ) (hs ws gs : List ℕ) : Type 0 where
@@ -21,6 +25,18 @@ pub record FirstLists (kind : Kind) (n : ℕ) (hs ws gs : List ℕ) : Type 0 whe
   pub gaps-long : n ≤ length gs
   pub some : 0 < n
   pub lists : StackLists kind (take n hs) (take n ws) (take n gs)
+
+-- A stack in three lists, with room to plan it and for its placements.
+abbrev pub Foldable : Kind → ℕ → List ℕ → List ℕ → List ℕ → List ℕ → List ℕ → Type 0
+Foldable kind limit hs ws gs out work = Plannable kind hs ws gs work × (limit ≤ mostLimit) × (3 * length hs ≤ length out)
+
+-- What a fold call answers for the stack in the first n entries of three lists: its checks behind the file's own refusals, and
+-- then the search.
+abbrev pub FirstAnswered : (Kind → List Component → ℕ → List Placement → Outline → Type 0) → (Kind → List Component → ℕ → Type 0) → Kind
+    → ℕ → ℕ → List ℕ → List ℕ → List ℕ → List ℕ → List ℕ → Answer Outline → List ℕ → List ℕ → Type 0
+FirstAnswered Best Unmeetable kind n limit hs ws gs out work answer out′ work′ =
+    Answered Best Unmeetable kind limit out work out′ work′ answer
+    (foldChecks limit (length out) (length work) n (componentsIn (take n hs) (take n ws) (take n gs)))
 
 -- A folding with that outline is written where there is one.
 abbrev pub Written : Kind → List Component → ℕ → List ℕ → List ℕ → Answer Outline → Type 0
@@ -32,13 +48,13 @@ Written kind cs limit out out′ (result o) =
 
 -- The least height for which the best layout is at most w wide.
 pub record LeastFor (kind : Kind) (cs : List Component) (w limit : ℕ) : Type 0 where
-  pub most : limit ≤ 2000000
+  pub most : limit ≤ mostLimit
   pub within : layoutOf kind limit 0 cs .width ≤ w
   pub below : (k : ℕ) → limit ≡ k + 1 → w < layoutOf kind k 0 cs .width
 
 -- Halving: between lo and hi.
 pub record Halving (kind : Kind) (cs : List Component) (w lo hi : ℕ) : Type 0 where
   pub order : lo ≤ hi
-  pub most : hi ≤ 2000000
+  pub most : hi ≤ mostLimit
   pub within : layoutOf kind hi 0 cs .width ≤ w
   pub below : (k : ℕ) → lo ≡ k + 1 → w < layoutOf kind k 0 cs .width

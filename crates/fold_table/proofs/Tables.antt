@@ -14,6 +14,7 @@ use Rattle.stack.specs.File.{checkOf}
 use Rattle.stack.proofs.Reading.{Held}
 use Rattle.folding.specs.declared.Outline.{Outline}
 use Rattle.folding.proofs.Measuring.{components-held}
+use Rattle.folding.proofs.Listings.{one-listing, few-listed}
 use Rattle.group.specs.Group.{none}
 use Rattle.layout.specs.Layout.{layoutOf}
 use Rattle.layout.specs.Table.{outlines}
@@ -21,10 +22,11 @@ use Rattle.layout.proofs.Reach.{met-keeps}
 use Rattle.layout.proofs.Table.{layout-high, table}
 use Rattle.layout.proofs.Fuel.{outlines-next, outlines-done, outlines-length}
 use Rattle.plan.specs.Asks.{Plannable, bestAt}
+use Rattle.fold.specs.Calls.{workCheck}
 use Rattle.fold.specs.Inner.{FirstLists}
 use Rattle.fold.proofs.Held.{Stacked}
-use Rattle.fold_table.specs.Calls.{workCheck, tableValidOf, pairsOf, Tabled, TableAnswered}
-use Rattle.fold_table.specs.Inner.{outlinesTo, allOutlines, CountedTo, WrittenTo}
+use Rattle.fold_table.specs.Calls.{tableValidOf, pairsOf, tableAnswer, tableInto, Tabled, TableAnswered}
+use Rattle.fold_table.specs.Inner.{outlinesTo, allOutlines, allInto, CountedTo, WrittenTo}
 
 pub two-set : (l : List ℕ) (i a b : ℕ) → i + 2 ≤ length l → set (set l i a) (i + 1) b ≡ take i l ++ (a ∷ b ∷ drop (i + 2) l)
 two-set [] i a b h = absurd (omega arith)
@@ -127,22 +129,25 @@ module _ (kind : Kind) (cs : List Component) (s : Stacked cs) where
       sym (take-append-drop at new) ∙ rw (f, w .beyond, n)
 
   -- The two ways in which the table ends.
+  module _ (out out′ : List ℕ) (answer : Answer ℕ) where
+    tabled-as : answer ≡ tableAnswer (length out) (allOutlines kind cs) → out′ ≡ tableInto (allOutlines kind cs) out → Tabled kind cs out out′ answer
+    tabled-as a h =
+        let l = table kind cs (s .some) (s .few) (s .sized) (s .gapped) in
+        record {
+          listed = allOutlines kind cs;
+          listing = l;
+          only = λ other m. one-listing kind cs other (allOutlines kind cs) m l;
+          few = few-listed kind cs (allOutlines kind cs) (s .sized) (s .some) l;
+          answers = a;
+          holds = h;
+        }
+
   module _ (out : List ℕ) (n : ℕ) (e : n ≡ length (allOutlines kind cs)) where
     pub too-long : length out / 2 < n → Tabled kind cs out out (refusal 8)
-    too-long h = record {
-      listed = allOutlines kind cs;
-      listing = table kind cs (s .some) (s .few) (s .sized) (s .gapped);
-      answers = rw (← e, lt-ltb (length out / 2) n h);
-      holds = rw (← e, lt-ltb (length out / 2) n h);
-    }
+    too-long h = tabled-as out out (refusal 8) (rw (← e, lt-ltb (length out / 2) n h)) (rw (← e, lt-ltb (length out / 2) n h))
 
-    pub all-listed : (out′ : List ℕ) → n ≤ length out / 2 → out′ ≡ pairsOf (allOutlines kind cs) ++ drop (2 * length (allOutlines kind cs)) out → Tabled kind cs out out′ (result n)
-    all-listed out′ h p = record {
-      listed = allOutlines kind cs;
-      listing = table kind cs (s .some) (s .few) (s .sized) (s .gapped);
-      answers = rw (← e, le-ltb (length out / 2) n h);
-      holds = p ∙ rw (← e, le-ltb (length out / 2) n h);
-    }
+    pub all-listed : (out′ : List ℕ) → n ≤ length out / 2 → out′ ≡ allInto kind cs out → Tabled kind cs out out′ (result n)
+    all-listed out′ h p = tabled-as out out′ (result n) (rw (← e, le-ltb (length out / 2) n h)) (p ∙ rw (← e, le-ltb (length out / 2) n h))
 
 -- The calls' answers.
 module _ (kind : Kind) (out work : List ℕ) where

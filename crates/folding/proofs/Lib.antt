@@ -11,3 +11,5 @@ pub mod Measuring
 pub mod Choosing
 pub mod Renumber
 pub mod Flat
+pub mod WidthSum
+pub mod Listings

@@ -5,17 +5,18 @@ use mathlib.Core.List.{List}
 use mathlib.Core.Bool.{true, cond, _&&_}
 use lib.ListN.{length, getD, take}
 use lib.Dec.{leb, ltb}
+use Rattle.terms.specs.Numbers.{mostApart}
 use Rattle.terms.specs.declared.Kind.{Kind}
 use Rattle.terms.specs.Answer.{Answer, refusal, result}
-use Rattle.terms.specs.Component.{tabulate, componentIn}
+use Rattle.terms.specs.Component.{tabulate, componentIn, componentsIn}
 use Rattle.folding.specs.declared.Placed.{Placed}
 use Rattle.folding.specs.declared.Outline.{Outline}
 use Rattle.folding.specs.declared.Winner.{Winner}
 use Rattle.folding.specs.declared.Winner.the-variants.{First, Second, Neither}
-use Rattle.folding.specs.Calls.{secondWins}
-use Rattle.folding.specs.Legal.{legal}
+use Rattle.folding.specs.Calls.{measureIn, secondWins}
+use Rattle.folding.specs.Legal.{mostStart, legal}
 use Rattle.folding.specs.Placement.{placementAt}
-use Rattle.folding.specs.Outline.{widthIn, heightIn}
+use Rattle.folding.specs.Outline.{groupHeight, widthIn, heightIn}
 
 -- A stack in three lists, and its placements in a run of flat numbers.
 abbrev pub placedAt : List ℕ → List ℕ → List ℕ → List ℕ → ℕ → Placed
@@ -48,16 +49,28 @@ shareAt hs ws flat row i = cond (leb (startAt flat i) row && ltb row (endAt hs f
 abbrev pub sumAt : List ℕ → List ℕ → List ℕ → ℕ → ℕ
 sumAt hs ws flat row = total (shareAt hs ws flat row) (length hs)
 
+-- The sum of the row where component i starts.
+abbrev pub sumAtStart : List ℕ → List ℕ → List ℕ → ℕ → ℕ
+sumAtStart hs ws flat i = sumAt hs ws flat (startAt flat i)
+
 -- The lists are long enough for the placed components.
 pub record Listed (hs ws gs flat : List ℕ) : Type 0 where
-  pub few : length hs ≤ 256
+  pub few : length hs ≤ mostApart
   pub widths-long : length ws ≡ length hs
   pub gaps-long : length gs ≡ length hs
   pub flat-long : 3 * length hs ≤ length flat
 
+-- Component i of a group can be read, and starts in the range.
+abbrev pub StandsAt : List ℕ → List ℕ → ℕ → Type 0
+StandsAt hs flat i = (i < length hs) × (i < mostApart) × (3 * i + 2 < length flat) × (startAt flat i ≤ mostStart)
+
 -- No component starts above the range.
 abbrev pub Low : List ℕ → ℕ → Type 0
-Low flat n = (i : ℕ) → i < n → startAt flat i ≤ 1024000
+Low flat n = (i : ℕ) → i < n → startAt flat i ≤ mostStart
+
+-- Nor does any of a group, whose placements are all there.
+abbrev pub Topped : List ℕ → List ℕ → Type 0
+Topped hs flat = (length hs ≤ mostApart) × (3 * length hs ≤ length flat) × Low flat (length hs)
 
 -- The group of the component at `from` ends before `to`.
 pub record GroupEnd (flat : List ℕ) (n from to : ℕ) : Type 0 where
@@ -75,11 +88,15 @@ pub record Lefts (flat : List ℕ) (n k : ℕ) : Type 0 where
 -- A group's lists, whose first component is on the left.
 pub record GroupFlat (hs gs flat : List ℕ) : Type 0 where
   pub some : 0 < length hs
-  pub few : length hs ≤ 256
+  pub few : length hs ≤ mostApart
   pub gaps-long : length gs ≡ length hs
   pub flat-long : 3 * length hs ≤ length flat
   pub low : Low flat (length hs)
   pub first-left : sideAt flat 0 ≡ 0
+
+-- The height of a group behind the gap g0, whatever its widths are.
+abbrev pub HeightIs : ℕ → List ℕ → List ℕ → List ℕ → ℕ → Type 0
+HeightIs g0 hs gs flat height = (ws : List ℕ) → height ≡ groupHeight g0 (placedIn hs ws gs flat)
 
 pub record GroupIn (hs ws gs flat : List ℕ) : Type 0 where
   pub flat-group : GroupFlat hs gs flat
@@ -92,7 +109,7 @@ outlineIn l = record { width = record { 0 = widthIn l }; height = record { 0 = h
 -- A stack that stands in three lists.
 pub record StackIn (hs ws gs : List ℕ) : Type 0 where
   pub some : 0 < length hs
-  pub few : length hs ≤ 256
+  pub few : length hs ≤ mostApart
   pub widths-long : length ws ≡ length hs
   pub gaps-long : length gs ≡ length hs
   pub tall : (i : ℕ) → i < length hs → 0 < getD hs i 0
@@ -103,6 +120,9 @@ pub record FirstIn (n : ℕ) (hs ws gs : List ℕ) : Type 0 where
   pub widths-long : n ≤ length ws
   pub gaps-long : n ≤ length gs
   pub stack : StackIn (take n hs) (take n ws) (take n gs)
+
+abbrev pub measureFirst : Kind → ℕ → List ℕ → List ℕ → List ℕ → List ℕ → Answer Outline
+measureFirst kind n hs ws gs flat = measureIn kind (componentsIn (take n hs) (take n ws) (take n gs)) flat
 
 -- A stack in lists with a legal folding.
 pub record Legalised (hs ws gs flat : List ℕ) : Type 0 where

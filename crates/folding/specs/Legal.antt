@@ -1,5 +1,5 @@
 -- Which foldings are legal (document 01, "Foldings"): "when all numbers are in these ranges and" each of the rules below holds.
-use Prim.Native.Nat.{_+_}
+use Prim.Native.Nat.{ℕ, _+_}
 use mathlib.Core.Path.{_≡_}
 use mathlib.Core.List.{List, [], _∷_}
 use mathlib.Core.Bool.{Bool, true, not, cond, _&&_, _||_}
@@ -23,13 +23,17 @@ eachPair rule (x ∷ []) = true
 eachPair rule (x ∷ y ∷ l) = rule x y && eachPair rule (y ∷ l)
 
 -- The ranges: "side (0 left, 1 right), start row (0 to 1,024,000)". Every number is a group number "from 0".
+abbrev pub mostStart : ℕ
+mostStart = 1024000
+
 abbrev pub inRange : Placed → Bool
-inRange x = leb (x .placement .side) 1 && leb (startOf x) 1024000
+inRange x = leb (x .placement .side) 1 && leb (startOf x) mostStart
 
 abbrev pub sameGroup : Placed → Placed → Bool
 sameGroup x y = eqb (groupOf y) (groupOf x)
 
--- "Groups appear in order 0, 1, 2 and so on, each a run of consecutive components": the first is in group 0, and each is in the group of the one before it or in the next.
+-- "Groups appear in order 0, 1, 2 and so on, each a run of consecutive components": the first is in group 0, and each is in
+-- the group of the one before it or in the next.
 abbrev pub fromZero : List Placed → Bool
 fromZero [] = true
 fromZero (x ∷ l) = eqb (groupOf x) 0
@@ -37,7 +41,8 @@ fromZero (x ∷ l) = eqb (groupOf x) 0
 abbrev pub inOrder : Placed → Placed → Bool
 inOrder x y = sameGroup x y || eqb (groupOf y) (groupOf x + 1)
 
--- "In a group the left components come first, at least one; the right components follow, if any": the first of a group is on the left, and in a group none on the left follows one on the right.
+-- "In a group the left components come first, at least one; the right components follow, if any": the first of a group is on
+-- the left, and in a group none on the left follows one on the right.
 abbrev pub fromLeft : List Placed → Bool
 fromLeft [] = true
 fromLeft (x ∷ l) = left x
@@ -60,7 +65,12 @@ onSide Nested x = true
 
 unfoldable pub legal : Kind → List Placed → Bool
 legal kind l =
-    each inRange l && (fromZero l && eachPair inOrder l) && (fromLeft l && eachPair leftFirst l) && eachPair leftClear l && eachPair rightClear l && each (onSide kind) l
+    each inRange l
+    && (fromZero l && eachPair inOrder l)
+    && (fromLeft l && eachPair leftFirst l)
+    && eachPair leftClear l
+    && eachPair rightClear l
+    && each (onSide kind) l
 
 -- A folding of a stack: a placement for each component, and legal.
 pub record Legal (kind : Kind) (cs : List Component) (ps : List Placement) : Type 0 where

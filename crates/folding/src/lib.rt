@@ -1,24 +1,29 @@
 // Foldings: what a folding's outline is, and which of two is better.
 ghost use mathlib.Core.Path.{_≡_};
 ghost use mathlib.Core.Bool.{Bool, true, _&&_};
-ghost use mathlib.Core.List.{List};
-ghost use Prim.Native.Nat.{ℕ, _+_, _*_, _≤_, _<_, max};
-ghost use lib.ListN.{length, take};
+ghost use Prim.Native.Nat.{_+_, _*_, _≤_, _<_, max};
+ghost use lib.ListN.{length};
 ghost use lib.Dec.{eqb};
+ghost use Rattle.terms.specs.Numbers.{mostApart};
 ghost use Rattle.terms.specs.Component.{componentsIn};
 ghost use Rattle.folding.specs.Placement.{heightOf, groupOf, startOf, endOf, left};
-ghost use Rattle.folding.specs.Legal.{inRange, onSide, sameGroup, inOrder, leftFirst, leftClear, rightClear, legal};
+ghost use Rattle.folding.specs.Legal.{mostStart, inRange, onSide, sameGroup, inOrder, leftFirst, leftClear, rightClear, legal};
 ghost use Rattle.folding.specs.Outline.{greatest, groupWidth, groupHeight};
 ghost use Rattle.folding.specs.Calls.{measuredAnswer, measureIn, measureOf, chooseOf, secondWins};
-ghost use Rattle.folding.specs.Inner.{placedAt, placedIn, groupAt, sideAt, startAt, endAt, shareAt, sumAt, Listed, Low, GroupEnd, Lefts, GroupFlat, GroupIn, outlineIn, StackIn, FirstIn, Legalised, winnerIs};
+ghost use Rattle.folding.specs.Inner.{placedAt, placedIn, endAt, shareAt, sumAt, sumAtStart, outlineIn, measureFirst, winnerIs};
+ghost use Rattle.folding.specs.Inner.{Listed, StandsAt, Topped, GroupEnd, Lefts, GroupFlat, HeightIs, GroupIn, StackIn, FirstIn, Legalised};
 use numbers::larger;
 use numbers::wide;
 use terms::Component;
 use terms::Counted;
 use terms::Kind;
+use terms::MOST_APART;
 use terms::Refusal;
 use terms::Rows;
 use terms::Slices;
+
+// The highest start row of a placement.
+pub const MOST_START: u32 = 1024000;
 
 pub struct Placement {
     pub group: u32,
@@ -69,7 +74,7 @@ fn stands_alone(kind: Kind, x: Placed) -> bool
     if 1 < p.side {
         return false;
     }
-    if 1024000 < p.start {
+    if MOST_START < p.start {
         return false;
     }
     match kind {
@@ -79,7 +84,7 @@ fn stands_alone(kind: Kind, x: Placed) -> bool
 }
 
 fn end_of(x: Placed) -> u32
-    requires { ⌜ (startOf x ≤ 1024000) × (heightOf x < 65536) ⌝ }
+    requires { ⌜ (startOf x ≤ mostStart) × (heightOf x < 65536) ⌝ }
     ensures { λ r. ⌜ r ≡ endOf x ⌝ }
 {
     x.placement.start + x.component.height.0
@@ -87,8 +92,8 @@ fn end_of(x: Placed) -> u32
 
 // Whether y may follow x, where both are in one group.
 fn stands_behind(x: Placed, y: Placed) -> bool
-    requires { ⌜ (startOf x ≤ 1024000) × (heightOf x < 65536) ⌝ }
-    requires { ⌜ (startOf y ≤ 1024000) × (heightOf y < 65536) ⌝ }
+    requires { ⌜ (startOf x ≤ mostStart) × (heightOf x < 65536) ⌝ }
+    requires { ⌜ (startOf y ≤ mostStart) × (heightOf y < 65536) ⌝ }
     requires { ⌜ sameGroup x y ≡ true ⌝ }
     ensures { λ r. ⌜ r ≡ (inOrder x y && leftFirst x y && leftClear x y && rightClear x y) ⌝ }
 {
@@ -107,8 +112,8 @@ fn stands_behind(x: Placed, y: Placed) -> bool
 }
 
 fn may_follow(x: Placed, y: Placed) -> bool
-    requires { ⌜ (startOf x ≤ 1024000) × (heightOf x < 65536) ⌝ }
-    requires { ⌜ (startOf y ≤ 1024000) × (heightOf y < 65536) ⌝ }
+    requires { ⌜ (startOf x ≤ mostStart) × (heightOf x < 65536) ⌝ }
+    requires { ⌜ (startOf y ≤ mostStart) × (heightOf y < 65536) ⌝ }
     ensures { λ r. ⌜ r ≡ (inOrder x y && leftFirst x y && leftClear x y && rightClear x y) ⌝ }
 {
     let p = x.placement;
@@ -127,7 +132,8 @@ fn may_follow(x: Placed, y: Placed) -> bool
 // Whether the placements are legal, in one pass.
 fn is_legal(kind: Kind, heights: &[u16], widths: &[u16], gaps: &[u16], flat: &[u32]) -> bool
     requires { ⌜ Listed (now heights) (now widths) (now gaps) (now flat) × (0 < length (now heights)) ⌝ }
-    ensures { λ r. ⌜ r ≡ legal kind (placedIn (now (heights .entry)) (now (widths .entry)) (now (gaps .entry)) (now (flat .entry))) ⌝ }
+    ensures { λ r. ⌜ r
+        ≡ legal kind (placedIn (now (heights .entry)) (now (widths .entry)) (now (gaps .entry)) (now (flat .entry))) ⌝ }
 {
     let mut x = placed_at(heights, widths, gaps, flat, 0);
     if !may_open(kind, x) {
@@ -163,7 +169,7 @@ fn may_open(kind: Kind, x: Placed) -> bool
 
 // Behind the last component of the group of the one at `from`.
 fn group_end(flat: &[u32], n: usize, from: usize) -> usize
-    requires { ⌜ (n ≤ 256) × (3 * n ≤ length (now flat)) × (from < n) ⌝ }
+    requires { ⌜ (n ≤ mostApart) × (3 * n ≤ length (now flat)) × (from < n) ⌝ }
     ensures { λ r. ⌜ GroupEnd (now (flat .entry)) n from r ⌝ }
 {
     let group = flat[3 * from];
@@ -178,7 +184,7 @@ fn group_end(flat: &[u32], n: usize, from: usize) -> usize
 }
 
 fn end_at(heights: &[u16], flat: &[u32], i: usize) -> u32
-    requires { ⌜ (i < length (now heights)) × (i < 256) × (3 * i + 2 < length (now flat)) × (startAt (now flat) i ≤ 1024000) ⌝ }
+    requires { ⌜ StandsAt (now heights) (now flat) i ⌝ }
     ensures { λ r. ⌜ r ≡ endAt (now (heights .entry)) (now (flat .entry)) i ⌝ }
     ensures { λ r. ⌜ r ≤ 1089535 ⌝ }
 {
@@ -187,7 +193,7 @@ fn end_at(heights: &[u16], flat: &[u32], i: usize) -> u32
 
 // T: one more than the highest row of the group.
 fn top(heights: &[u16], flat: &[u32]) -> u32
-    requires { ⌜ (length (now heights) ≤ 256) × (3 * length (now heights) ≤ length (now flat)) × Low (now flat) (length (now heights)) ⌝ }
+    requires { ⌜ Topped (now heights) (now flat) ⌝ }
     ensures { λ r. ⌜ r ≡ greatest (endAt (now (heights .entry)) (now (flat .entry))) (length (now (heights .entry))) ⌝ }
     ensures { λ r. ⌜ r ≤ 1089535 ⌝ }
 {
@@ -202,7 +208,7 @@ fn top(heights: &[u16], flat: &[u32]) -> u32
 
 // What component i adds to the sum of a row.
 fn share(heights: &[u16], widths: &[u16], flat: &[u32], row: u32, i: usize) -> u32
-    requires { ⌜ (i < length (now heights)) × (i < length (now widths)) × (i < 256) × (3 * i + 2 < length (now flat)) × (startAt (now flat) i ≤ 1024000) ⌝ }
+    requires { ⌜ StandsAt (now heights) (now flat) i × (i < length (now widths)) ⌝ }
     ensures { λ r. ⌜ r ≡ shareAt (now (heights .entry)) (now (widths .entry)) (now (flat .entry)) row i ⌝ }
     ensures { λ r. ⌜ r ≤ 65535 ⌝ }
 {
@@ -216,7 +222,7 @@ fn share(heights: &[u16], widths: &[u16], flat: &[u32], row: u32, i: usize) -> u
 
 // The sum of the widths that lie in a row.
 fn row_sum(heights: &[u16], widths: &[u16], flat: &[u32], row: u32) -> u32
-    requires { ⌜ (length (now heights) ≤ 256) × (length (now widths) ≡ length (now heights)) × (3 * length (now heights) ≤ length (now flat)) × Low (now flat) (length (now heights)) ⌝ }
+    requires { ⌜ Topped (now heights) (now flat) × (length (now widths) ≡ length (now heights)) ⌝ }
     ensures { λ r. ⌜ r ≡ sumAt (now (heights .entry)) (now (widths .entry)) (now (flat .entry)) row ⌝ }
     ensures { λ r. ⌜ r ≤ 65535 * length (now (heights .entry)) ⌝ }
 {
@@ -231,8 +237,9 @@ fn row_sum(heights: &[u16], widths: &[u16], flat: &[u32], row: u32) -> u32
 
 // The greatest row sum of a group: it occurs at a row where a component starts.
 fn group_width(heights: &[u16], widths: &[u16], flat: &[u32]) -> u32
-    requires { ⌜ (length (now heights) ≤ 256) × (length (now widths) ≡ length (now heights)) × (3 * length (now heights) ≤ length (now flat)) × Low (now flat) (length (now heights)) ⌝ }
-    ensures { λ r. ⌜ r ≡ greatest (λ i. sumAt (now (heights .entry)) (now (widths .entry)) (now (flat .entry)) (startAt (now (flat .entry)) i)) (length (now (heights .entry))) ⌝ }
+    requires { ⌜ Topped (now heights) (now flat) × (length (now widths) ≡ length (now heights)) ⌝ }
+    ensures { λ r. ⌜ r
+        ≡ greatest (sumAtStart (now (heights .entry)) (now (widths .entry)) (now (flat .entry))) (length (now (heights .entry))) ⌝ }
     ensures { λ r. ⌜ r ≤ 65535 * length (now (heights .entry)) ⌝ }
 {
     let mut width = 0;
@@ -246,7 +253,7 @@ fn group_width(heights: &[u16], widths: &[u16], flat: &[u32]) -> u32
 
 // How many components of a group are on the left before the first on the right.
 fn lefts(flat: &[u32], n: usize) -> usize
-    requires { ⌜ (n ≤ 256) × (3 * n ≤ length (now flat)) ⌝ }
+    requires { ⌜ (n ≤ mostApart) × (3 * n ≤ length (now flat)) ⌝ }
     ensures { λ r. ⌜ Lefts (now (flat .entry)) n r ⌝ }
 {
     let mut k = 0;
@@ -261,7 +268,7 @@ fn lefts(flat: &[u32], n: usize) -> usize
 
 fn group_height(heights: &[u16], gaps: &[u16], flat: &[u32], before: u32) -> u32
     requires { ⌜ GroupFlat (now heights) (now gaps) (now flat) × (before ≤ 65535) ⌝ }
-    ensures { λ r. ⌜ ((ws : List ℕ) → r ≡ groupHeight before (placedIn (now (heights .entry)) ws (now (gaps .entry)) (now (flat .entry)))) ⌝ }
+    ensures { λ r. ⌜ HeightIs before (now (heights .entry)) (now (gaps .entry)) (now (flat .entry)) r ⌝ }
 {
     let n = heights.len();
     let t = top(heights, flat);
@@ -282,8 +289,10 @@ fn group_outline(
     before: u32,
 ) -> Outline
     requires { ⌜ GroupIn (now heights) (now widths) (now gaps) (now flat) × (before ≤ 65535) ⌝ }
-    ensures { λ r. ⌜ r .width .0 ≡ groupWidth (placedIn (now (heights .entry)) (now (widths .entry)) (now (gaps .entry)) (now (flat .entry))) ⌝ }
-    ensures { λ r. ⌜ r .height .0 ≡ groupHeight before (placedIn (now (heights .entry)) (now (widths .entry)) (now (gaps .entry)) (now (flat .entry))) ⌝ }
+    ensures { λ r. ⌜ r .width .0
+        ≡ groupWidth (placedIn (now (heights .entry)) (now (widths .entry)) (now (gaps .entry)) (now (flat .entry))) ⌝ }
+    ensures { λ r. ⌜ r .height .0
+        ≡ groupHeight before (placedIn (now (heights .entry)) (now (widths .entry)) (now (gaps .entry)) (now (flat .entry))) ⌝ }
     ensures { λ r. ⌜ r .width .0 ≤ 65535 * length (now (heights .entry)) ⌝ }
 {
     Outline {
@@ -295,7 +304,8 @@ fn group_outline(
 // The outline of a legal folding, group after group.
 fn outline_of(heights: &[u16], widths: &[u16], gaps: &[u16], flat: &[u32]) -> Outline
     requires { ⌜ Legalised (now heights) (now widths) (now gaps) (now flat) ⌝ }
-    ensures { λ r. ⌜ r ≡ outlineIn (placedIn (now (heights .entry)) (now (widths .entry)) (now (gaps .entry)) (now (flat .entry))) ⌝ }
+    ensures { λ r. ⌜ r
+        ≡ outlineIn (placedIn (now (heights .entry)) (now (widths .entry)) (now (gaps .entry)) (now (flat .entry))) ⌝ }
 {
     let n = heights.len();
     let mut width = 0;
@@ -333,7 +343,8 @@ fn measure_lists(
     flat: &[u32],
 ) -> Measured
     requires { ⌜ StackIn (now heights) (now widths) (now gaps) ⌝ }
-    ensures { λ r. ⌜ measuredAnswer r ≡ measureIn kind (componentsIn (now (heights .entry)) (now (widths .entry)) (now (gaps .entry))) (now (flat .entry)) ⌝ }
+    ensures { λ r. ⌜ measuredAnswer r
+        ≡ measureIn kind (componentsIn (now (heights .entry)) (now (widths .entry)) (now (gaps .entry))) (now (flat .entry)) ⌝ }
 {
     if flat.len() / 3 < heights.len() {
         return Measured::Refused(Refusal::ShortBuffer);
@@ -354,7 +365,8 @@ fn measure_first(
     flat: &[u32],
 ) -> Measured
     requires { ⌜ FirstIn n (now heights) (now widths) (now gaps) ⌝ }
-    ensures { λ r. ⌜ measuredAnswer r ≡ measureIn kind (componentsIn (take n (now (heights .entry))) (take n (now (widths .entry))) (take n (now (gaps .entry)))) (now (flat .entry)) ⌝ }
+    ensures { λ r. ⌜ measuredAnswer r
+        ≡ measureFirst kind n (now (heights .entry)) (now (widths .entry)) (now (gaps .entry)) (now (flat .entry)) ⌝ }
 {
     measure_lists(kind, &heights[..n], &widths[..n], &gaps[..n], flat)
 }
@@ -362,12 +374,12 @@ fn measure_first(
 pub fn measure(file: &[u8], kind: Kind, flat: &[u32]) -> Measured
     ensures { λ r. ⌜ measuredAnswer r ≡ measureOf kind (now (file .entry)) (now (flat .entry)) ⌝ }
 {
-    let mut heights = [0u16; 256];
-    let mut widths = [0u16; 256];
-    let mut gaps = [0u16; 256];
+    let mut heights = [0u16; MOST_APART];
+    let mut widths = [0u16; MOST_APART];
+    let mut gaps = [0u16; MOST_APART];
     match stack::read_as(file, kind, &mut heights, &mut widths, &mut gaps) {
         Counted::Refused(k) => Measured::Refused(k),
-        Counted::Components(n) => measure_first(kind, n, &heights, &widths, &gaps, flat),
+        Counted::Count(n) => measure_first(kind, n, &heights, &widths, &gaps, flat),
     }
 }
 
@@ -418,7 +430,9 @@ fn better_of(
     second: &[u32],
 ) -> Winner
     requires { ⌜ FirstIn n (now heights) (now widths) (now gaps) ⌝ }
-    ensures { λ r. ⌜ r ≡ winnerIs (measureIn kind (componentsIn (take n (now (heights .entry))) (take n (now (widths .entry))) (take n (now (gaps .entry)))) (now (first .entry))) (measureIn kind (componentsIn (take n (now (heights .entry))) (take n (now (widths .entry))) (take n (now (gaps .entry)))) (now (second .entry))) ⌝ }
+    ensures { λ r. ⌜ r ≡ winnerIs
+        (measureFirst kind n (now (heights .entry)) (now (widths .entry)) (now (gaps .entry)) (now (first .entry)))
+        (measureFirst kind n (now (heights .entry)) (now (widths .entry)) (now (gaps .entry)) (now (second .entry))) ⌝ }
 {
     let a = measure_first(kind, n, heights, widths, gaps, first);
     let b = measure_first(kind, n, heights, widths, gaps, second);
@@ -428,12 +442,12 @@ fn better_of(
 pub fn choose<'a>(file: &[u8], kind: Kind, first: &'a [u32], second: &'a [u32]) -> &'a [u32]
     ensures { λ r. ⌜ now r ≡ chooseOf kind (now (file .entry)) (now (first .entry)) (now (second .entry)) ⌝ }
 {
-    let mut heights = [0u16; 256];
-    let mut widths = [0u16; 256];
-    let mut gaps = [0u16; 256];
+    let mut heights = [0u16; MOST_APART];
+    let mut widths = [0u16; MOST_APART];
+    let mut gaps = [0u16; MOST_APART];
     match stack::read_as(file, kind, &mut heights, &mut widths, &mut gaps) {
         Counted::Refused(_) => &first[..0],
-        Counted::Components(n) => {
+        Counted::Count(n) => {
             let end = 3 * n;
             match better_of(kind, n, &heights, &widths, &gaps, first, second) {
                 Winner::First => &first[..end],

@@ -3,33 +3,38 @@ ghost use mathlib.Core.Path.{_≡_};
 ghost use mathlib.Core.List.{[], _∷_, _++_};
 ghost use Prim.Native.Nat.{_+_, _*_, _≤_, _<_, min};
 ghost use lib.ListN.{length};
+ghost use Rattle.terms.specs.Numbers.{mostApart};
 ghost use Rattle.folding.specs.Calls.{measuredAnswer, measureOf};
 ghost use Rattle.folding_structs.specs.Flat.{held};
 ghost use Rattle.folding.specs.Placement.{flatOf};
 use folding::Measured;
 use folding::Placement;
 use terms::Kind;
+use terms::MOST_APART;
 
-// The first `count` of the numbers: room for the placements of the longest stack.
+// Room for the placements of the longest stack.
+const NUMBERS: usize = 3 * MOST_APART;
+
+// The first `count` of the numbers.
 struct Flat {
-    numbers: [u32; 768],
+    numbers: [u32; NUMBERS],
     count: usize,
 }
 
 // How many placements are read: no stack has more components.
 fn at_most(len: usize) -> usize
-    ensures { λ r. ⌜ r ≡ min len 256 ⌝ }
+    ensures { λ r. ⌜ r ≡ min len mostApart ⌝ }
 {
-    if len < 256 {
+    if len < MOST_APART {
         return len;
     }
-    256
+    MOST_APART
 }
 
 fn empty() -> Flat
     ensures { λ r. ⌜ r .count ≡ 0 ⌝ }
 {
-    let numbers = [0; 768];
+    let numbers = [0; NUMBERS];
     Flat {
         numbers: numbers,
         count: 0,
@@ -37,8 +42,9 @@ fn empty() -> Flat
 }
 
 fn push(flat: Flat, p: Placement) -> Flat
-    requires { ⌜ flat .count + 3 ≤ 768 ⌝ }
-    ensures { λ r. ⌜ (r .count ≡ flat .count + 3) × (held r ≡ held flat ++ (p .group ∷ p .side ∷ p .start ∷ [])) ⌝ }
+    requires { ⌜ flat .count + 3 ≤ 3 * mostApart ⌝ }
+    ensures { λ r. ⌜ (r .count ≡ flat .count + 3)
+        × (held r ≡ held flat ++ (p .group ∷ p .side ∷ p .start ∷ [])) ⌝ }
 {
     let n = flat.count;
     let mut numbers = flat.numbers;
@@ -52,7 +58,7 @@ fn push(flat: Flat, p: Placement) -> Flat
 }
 
 fn measure_flat(file: &[u8], kind: Kind, flat: Flat) -> Measured
-    requires { ⌜ flat .count ≤ 768 ⌝ }
+    requires { ⌜ flat .count ≤ 3 * mostApart ⌝ }
     ensures { λ r. ⌜ measuredAnswer r ≡ measureOf kind (now (file .entry)) (held flat) ⌝ }
 {
     let n = flat.count;

@@ -8,10 +8,10 @@ use lib.Dec.{ltb}
 use borrow.Author.Tests.{ltb-false}
 use Rattle.terms.specs.declared.Component.{Component}
 use Rattle.terms.specs.declared.Kind.{Kind}
-use Rattle.terms.specs.Answer.{Answer, refusal, result}
+use Rattle.terms.specs.Answer.{Answer, refusal, result, countAnswer}
 use Rattle.terms.proofs.Answers.{passed, result-same}
-use Rattle.fold_table.specs.declared.Listed.{Listed}
-use Rattle.fold_table.specs.Calls.{listedAnswer, TableAnswered, tableValidOf, TableOf}
+use Rattle.terms.specs.declared.Counted.{Counted}
+use Rattle.fold_table.specs.Calls.{TableAnswered, tableValidOf, TableOf}
 
 within : (kind : Kind) (out work out′ work′ : List ℕ) (n : ℕ) (a : Answer (List Component)) → TableAnswered kind out work out′ work′ (result n) a → 2 * n ≤ length out
 within kind out work out′ work′ n (refusal k) t =
@@ -22,5 +22,5 @@ within kind out work out′ work′ n (result cs) t =
     let p = passed (ltb (length out / 2) (length (t .listed))) 8 (result (length (t .listed))) n (sym (t .answers)) in
     omega (arith, ltb-false (length out / 2) (length (t .listed)) (p .0), result-same (p .1))
 
-pub fits : (kind : Kind) (file out work out′ work′ : List ℕ) (r : Listed) (n : ℕ) → TableOf kind file out work (listedAnswer r) out′ work′ → r ≡ Listed.Outlines n → length out′ ≡ length out → 2 * n ≤ length out′
+pub fits : (kind : Kind) (file out work out′ work′ : List ℕ) (r : Counted) (n : ℕ) → TableOf kind file out work (countAnswer r) out′ work′ → r ≡ Counted.Count n → length out′ ≡ length out → 2 * n ≤ length out′
 fits kind file out work out′ work′ r n t e k = omega (arith, k, within kind out work out′ work′ n (tableValidOf kind file work) (rw e at t))

@@ -1,5 +1,5 @@
 // Prints the outline tables of the stack file on standard input, apart and then nested: a line for each outline, or one for a refusal.
-use fold_table::Listed;
+use terms::Counted;
 use terms::Kind;
 ghost use Prim.Native.Nat.{_*_, _≤_};
 ghost use lib.ListN.{length};
@@ -27,9 +27,9 @@ fn say_pairs(letter: &[u8], pairs: &[u32], n: usize)
 }
 
 fn say_table(letter: &[u8], file: &[u8], kind: Kind, pairs: &mut [u32], work: &mut [u32]) {
-    match fold_table::outline_table(file, kind, pairs, work) {
-        Listed::Outlines(n) => say_pairs(letter, pairs, n),
-        Listed::Refused(k) => {
+    match fold_table::table(file, kind, pairs, work) {
+        Counted::Count(n) => say_pairs(letter, pairs, n),
+        Counted::Refused(k) => {
             say(letter);
             say(b" R");
             say_number(k.number());

@@ -3,6 +3,8 @@ use Prim.Native.Nat.{ℕ, _+_, _*_, _≤_}
 use mathlib.Core.Path.{_≡_}
 use mathlib.Core.List.{List, []}
 use lib.ListN.{length, getD}
+use Rattle.numbers.specs.Table.{stride, cells}
+use Rattle.terms.specs.Numbers.{mostSize}
 use Rattle.terms.specs.declared.Component.{Component}
 use Rattle.terms.specs.Component.{componentsIn}
 use Rattle.group.specs.Rows.{rows}
@@ -19,9 +21,9 @@ entry hs ws cap p q = rows cap 0 0 (leftSide p (bare hs ws)) (rightSide q (bare 
 -- Lists of one group: as many widths as heights, and each at most 4,000.
 pub record Columns (hs ws : List ℕ) : Type 0 where
   pub same : length ws ≡ length hs
-  pub low : (i : ℕ) → getD hs i 0 ≤ 4000
-  pub slim : (i : ℕ) → getD ws i 0 ≤ 4000
+  pub low : (i : ℕ) → getD hs i 0 ≤ mostSize
+  pub slim : (i : ℕ) → getD ws i 0 ≤ mostSize
 
 pub record Filled (hs ws es : List ℕ) (cap : ℕ) : Type 0 where
-  pub room : 4225 ≤ length es
-  pub right : (p q : ℕ) → p ≤ q → q ≤ length hs → getD es (p * 65 + q) 0 ≡ entry hs ws cap p q
+  pub room : cells ≤ length es
+  pub right : (p q : ℕ) → p ≤ q → q ≤ length hs → getD es (p * stride + q) 0 ≡ entry hs ws cap p q

@@ -3,6 +3,8 @@ use Prim.Native.Nat.{ℕ, _+_, _-_, _*_, _≤_, _<_, max}
 use mathlib.Core.Path.{_≡_}
 use mathlib.Core.List.{List}
 use lib.ListN.{length, getD}
+use Rattle.numbers.specs.Table.{stride, cells}
+use Rattle.terms.specs.Numbers.{mostSize, mostNested}
 use Rattle.group.specs.Group.{lowest}
 
 -- The heights of a group by its table: without a fold, and with a fold behind the first p components.
@@ -10,16 +12,16 @@ abbrev pub flatBy : ℕ → List ℕ → List ℕ → ℕ
 flatBy g0 gs es = getD es 0 0 + g0 + getD gs (length gs - 1) 0
 
 abbrev pub foldBy : ℕ → List ℕ → List ℕ → ℕ → ℕ
-foldBy g0 gs es p = getD es (p * 65 + p) 0 + max g0 (getD gs (length gs - 1) 0) + getD gs (p - 1) 0
+foldBy g0 gs es p = getD es (p * stride + p) 0 + max g0 (getD gs (length gs - 1) 0) + getD gs (p - 1) 0
 
 -- What a pass over all fold points asks.
 pub record PassAsks (g0 : ℕ) (gs es : List ℕ) : Type 0 where
   pub some : 1 ≤ length gs
-  pub few : length gs ≤ 64
-  pub room : 4225 ≤ length es
-  pub gaps-low : (i : ℕ) → getD gs i 0 ≤ 4000
-  pub first-low : g0 ≤ 4000
-  pub small : (p : ℕ) → p < length gs → getD es (p * 65 + p) 0 ≤ 512000
+  pub few : length gs ≤ mostNested
+  pub room : cells ≤ length es
+  pub gaps-low : (i : ℕ) → getD gs i 0 ≤ mostSize
+  pub first-low : g0 ≤ mostSize
+  pub small : (p : ℕ) → p < length gs → getD es (p * stride + p) 0 ≤ 512000
 
 -- Where the height v is reached: without a fold, or with one behind the first p components.
 pub data Point (g0 : ℕ) (gs es : List ℕ) (v p : ℕ) : Type 0 where

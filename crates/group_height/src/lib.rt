@@ -3,42 +3,50 @@ ghost use mathlib.Core.Path.{_≡_};
 ghost use mathlib.Core.List.{List};
 ghost use Prim.Native.Nat.{ℕ, _+_, _-_, _*_, _≤_, _<_, max};
 ghost use lib.ListN.{length, getD};
+ghost use Rattle.terms.specs.Numbers.{mostNested};
+ghost use Rattle.numbers.specs.Table.{stride, cells};
 ghost use Rattle.terms.specs.declared.Kind.the-variants.{Nested};
 ghost use Rattle.terms.specs.Component.{componentsIn};
 ghost use Rattle.group.specs.Group.{leastHeight, FoldPoint};
 ghost use Rattle.group.specs.Table.{Filled};
 ghost use Rattle.group_height.specs.Heights.{HeightAsks, WidthAsks, Narrow};
 ghost use Rattle.group_height.specs.Inner.{PassAsks, Pass};
+use group::NONE;
+use numbers::STRIDE;
 use numbers::get;
 use numbers::larger;
+use terms::Rows;
+use terms::Slices;
 
+// The width of a group, and its height there.
 pub struct Fit {
-    pub width: u32,
-    pub height: u32,
+    pub width: Slices,
+    pub height: Rows,
 }
 
 // A height, and the fold point that has it.
 struct Reached {
-    height: u32,
+    height: Rows,
     at: usize,
 }
 
 fn fold_cell(e: &[u32], p: usize) -> u32
-    requires { ⌜ (p ≤ 64) × (4225 ≤ length (now e)) ⌝ }
-    ensures { λ r. ⌜ r ≡ getD (now (e .entry)) (p * 65 + p) 0 ⌝ }
+    requires { ⌜ (p ≤ mostNested) × (cells ≤ length (now e)) ⌝ }
+    ensures { λ r. ⌜ r ≡ getD (now (e .entry)) (p * stride + p) 0 ⌝ }
 {
-    e[p * 65 + p]
+    e[p * STRIDE + p]
 }
 
 // The least height over all fold points of a filled table.
-fn over_folds(g0: u32, g: &[u16], e: &[u32]) -> Reached
-    requires { ⌜ PassAsks g0 (now g) (now e) ⌝ }
-    ensures { λ r. ⌜ Pass g0 (now (g .entry)) (now (e .entry)) (length (now (g .entry)) - 1) (r .height) (r .at) ⌝ }
+fn over_folds(g0: Rows, g: &[u16], e: &[u32]) -> Reached
+    requires { ⌜ PassAsks (g0 .0) (now g) (now e) ⌝ }
+    ensures { λ r. ⌜ Pass (g0 .0) (now (g .entry)) (now (e .entry)) (length (now (g .entry)) - 1) (r .height .0) (r .at) ⌝ }
 {
+    let before = g0.0;
     let m = g.len();
     let last = get(g, m - 1);
-    let most = larger(g0, last);
-    let mut v = e[0] + g0 + last;
+    let most = larger(before, last);
+    let mut v = e[0] + before + last;
     let mut at = m;
     let mut p = 1;
     while p < m {
@@ -49,53 +57,61 @@ fn over_folds(g0: u32, g: &[u16], e: &[u32]) -> Reached
         }
         p += 1;
     }
-    Reached { height: v, at }
+    Reached {
+        height: Rows(v),
+        at,
+    }
 }
 
-pub fn least_height(g0: u32, h: &[u16], w: &[u16], g: &[u16], e: &mut [u32], cap: u32) -> u32
-    requires { ⌜ HeightAsks g0 (now h) (now w) (now g) (now e) ⌝ }
-    ensures { λ r. ⌜ r ≡ leastHeight Nested g0 (componentsIn (now (h .entry)) (now (w .entry)) (now (g .entry))) cap ⌝ }
+// The content of the table's buffer is free afterwards.
+pub fn least_height(g0: Rows, h: &[u16], w: &[u16], g: &[u16], e: &mut [u32], cap: Slices) -> Rows
+    requires { ⌜ HeightAsks (g0 .0) (now h) (now w) (now g) (now e) ⌝ }
+    ensures { λ r. ⌜ r .0
+        ≡ leastHeight Nested (g0 .0) (componentsIn (now (h .entry)) (now (w .entry)) (now (g .entry))) (cap .0) ⌝ }
 {
     group_table::fill(h, w, e, cap);
     let f = over_folds(g0, g, e);
     f.height
 }
 
-pub fn fold_point(g0: u32, h: &[u16], w: &[u16], g: &[u16], e: &[u32], cap: u32) -> usize
-    requires { ⌜ HeightAsks g0 (now h) (now w) (now g) (now e) × Filled (now h) (now w) (now e) cap ⌝ }
-    ensures { λ r. ⌜ FoldPoint Nested g0 (componentsIn (now (h .entry)) (now (w .entry)) (now (g .entry))) cap r ⌝ }
+pub fn fold_point(g0: Rows, h: &[u16], w: &[u16], g: &[u16], e: &[u32], cap: Slices) -> usize
+    requires { ⌜ HeightAsks (g0 .0) (now h) (now w) (now g) (now e) × Filled (now h) (now w) (now e) (cap .0) ⌝ }
+    ensures { λ r. ⌜ FoldPoint Nested (g0 .0)
+        (componentsIn (now (h .entry)) (now (w .entry)) (now (g .entry))) (cap .0) r ⌝ }
 {
     let f = over_folds(g0, g, e);
     f.at
 }
 
-// The least width up to the cap at which the group is within the limit, by halving.
+// The least width up to the cap at which the group is within the limit, by halving. The content of the table's buffer is
+// free afterwards.
 pub fn narrowest(
-    g0: u32,
+    g0: Rows,
     h: &[u16],
     w: &[u16],
     g: &[u16],
     e: &mut [u32],
-    limit: u32,
-    widest: u32,
-    cap: u32,
+    limit: Rows,
+    widest: Slices,
+    cap: Slices,
 ) -> Fit
-    requires { ⌜ WidthAsks g0 (now h) (now w) (now g) (now e) limit widest cap ⌝ }
-    ensures { λ r. ⌜ Narrow g0 (now (h .entry)) (now (w .entry)) (now (g .entry)) limit cap (r .width) (r .height) ⌝ }
+    requires { ⌜ WidthAsks (g0 .0) (now h) (now w) (now g) (now e) (limit .0) (widest .0) (cap .0) ⌝ }
+    ensures { λ r. ⌜ Narrow (g0 .0) (now (h .entry)) (now (w .entry)) (now (g .entry)) (limit .0) (cap .0)
+        (r .width .0) (r .height .0) ⌝ }
 {
     let mut v = least_height(g0, h, w, g, e, cap);
-    if limit < v {
+    if limit.0 < v.0 {
         return Fit {
-            width: 4000000,
-            height: 4000000,
+            width: Slices(NONE),
+            height: Rows(NONE),
         };
     }
-    let mut lo = widest;
-    let mut hi = cap;
+    let mut lo = widest.0;
+    let mut hi = cap.0;
     while lo < hi {
         let mid = lo + (hi - lo) / 2;
-        let t = least_height(g0, h, w, g, e, mid);
-        if t <= limit {
+        let t = least_height(g0, h, w, g, e, Slices(mid));
+        if t.0 <= limit.0 {
             hi = mid;
             v = t;
         } else {
@@ -103,7 +119,7 @@ pub fn narrowest(
         }
     }
     Fit {
-        width: hi,
+        width: Slices(hi),
         height: v,
     }
 }

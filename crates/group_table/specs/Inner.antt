@@ -4,6 +4,8 @@ use mathlib.Core.Path.{_≡_}
 use mathlib.Core.List.{List}
 use mathlib.Core.Bool.{Bool, true, false}
 use lib.ListN.{length, getD}
+use Rattle.numbers.specs.Table.{stride, cells}
+use Rattle.terms.specs.Numbers.{mostSize, mostNested}
 use Rattle.group.specs.Table.{entry}
 use Rattle.group_table.specs.Table.{Asks}
 
@@ -16,7 +18,7 @@ pub record Sharing (ws : List ℕ) (cap p q : ℕ) (answer : Bool) : Type 0 wher
 
 -- The entry (p, q) of the table is right.
 abbrev pub Right : List ℕ → List ℕ → List ℕ → ℕ → ℕ → ℕ → Type 0
-Right hs ws es cap p q = getD es (p * 65 + q) 0 ≡ entry hs ws cap p q
+Right hs ws es cap p q = getD es (p * stride + q) 0 ≡ entry hs ws cap p q
 
 -- What a walk from (p, q) asks: each entry that it can reach is right.
 pub record Ready (hs ws es : List ℕ) (cap p q : ℕ) : Type 0 where
@@ -28,22 +30,22 @@ pub record Ready (hs ws es : List ℕ) (cap p q : ℕ) : Type 0 where
 
 -- The end of a walk at (p, q), with the left side up to row a and the right one up to row b: the entries that it may read are small.
 pub record Ending (hs es : List ℕ) (p q a b : ℕ) : Type 0 where
-  pub few : length hs ≤ 64
-  pub low : (i : ℕ) → getD hs i 0 ≤ 4000
-  pub room : 4225 ≤ length es
+  pub few : length hs ≤ mostNested
+  pub low : (i : ℕ) → getD hs i 0 ≤ mostSize
+  pub room : cells ≤ length es
   pub left-in : p ≤ length hs
   pub right-in : q ≤ length hs
   pub left-low : a ≤ 256000
   pub right-low : b ≤ 256000
   pub top : p ≡ 0 → getD es q 0 ≤ 512000
-  pub side : 0 < p → q ≡ length hs → getD es (p * 65 + q) 0 ≤ 512000
-  pub left-first : 0 < p → q < length hs → getD es ((p - 1) * 65 + q) 0 ≤ 512000
-  pub right-first : 0 < p → q < length hs → getD es (p * 65 + (q + 1)) 0 ≤ 512000
+  pub side : 0 < p → q ≡ length hs → getD es (p * stride + q) 0 ≤ 512000
+  pub left-first : 0 < p → q < length hs → getD es ((p - 1) * stride + q) 0 ≤ 512000
+  pub right-first : 0 < p → q < length hs → getD es (p * stride + (q + 1)) 0 ≤ 512000
 
 pub record Ended (hs es : List ℕ) (p q a b v : ℕ) : Type 0 where
   pub top : p ≡ 0 → v ≡ b + getD es q 0
-  pub side : 0 < p → q ≡ length hs → v ≡ a + getD es (p * 65 + q) 0
-  pub clash : 0 < p → q < length hs → v ≡ min (a + getD hs (p - 1) 0 + getD es ((p - 1) * 65 + q) 0) (b + getD hs q 0 + getD es (p * 65 + (q + 1)) 0)
+  pub side : 0 < p → q ≡ length hs → v ≡ a + getD es (p * stride + q) 0
+  pub clash : 0 < p → q < length hs → v ≡ min (a + getD hs (p - 1) 0 + getD es ((p - 1) * stride + q) 0) (b + getD hs q 0 + getD es (p * stride + (q + 1)) 0)
 
 -- What filling row p asks: the rows above it are right from column p on, and so is its last entry.
 pub record RowAsks (hs ws es : List ℕ) (cap p : ℕ) : Type 0 where
@@ -56,14 +58,14 @@ pub record RowAsks (hs ws es : List ℕ) (cap p : ℕ) : Type 0 where
 -- What it does: row p is right from column q on, and nothing else has changed.
 pub record RowDone (hs ws old new : List ℕ) (cap p q : ℕ) : Type 0 where
   pub done : (b : ℕ) → q ≤ b → b ≤ length hs → Right hs ws new cap p b
-  pub below : (i : ℕ) → i < p * 65 + q → getD new i 0 ≡ getD old i 0
-  pub beyond : (i : ℕ) → p * 65 + length hs ≤ i → getD new i 0 ≡ getD old i 0
+  pub below : (i : ℕ) → i < p * stride + q → getD new i 0 ≡ getD old i 0
+  pub beyond : (i : ℕ) → p * stride + length hs ≤ i → getD new i 0 ≡ getD old i 0
 
 -- The borders are right for all widths and every cap.
 pub record Low (hs es : List ℕ) : Type 0 where
-  pub few : length hs ≤ 64
-  pub low : (i : ℕ) → getD hs i 0 ≤ 4000
-  pub room : 4225 ≤ length es
+  pub few : length hs ≤ mostNested
+  pub low : (i : ℕ) → getD hs i 0 ≤ mostSize
+  pub room : cells ≤ length es
 
 -- Row 0 is right from column q on.
 abbrev pub TopDone : List ℕ → List ℕ → ℕ → Type 0

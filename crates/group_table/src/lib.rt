@@ -6,14 +6,16 @@ ghost use lib.ListN.{length, getD};
 ghost use Rattle.group.specs.Table.{entry, Filled};
 ghost use Rattle.group_table.specs.Table.{Asks};
 ghost use Rattle.group_table.specs.Inner.{Sharing, Ready, Ending, Ended, RowAsks, RowDone, Low, TopDone, SideDone};
+use numbers::STRIDE;
 use numbers::cell;
 use numbers::get;
 use numbers::lesser;
+use terms::Slices;
 
 // Whether two components stand beside each other at the ends of a walk.
-fn beside(w: &[u16], p: usize, q: usize, cap: u32) -> bool
+fn beside(w: &[u16], p: usize, q: usize, cap: Slices) -> bool
     requires { ⌜ (p ≤ length (now w)) × (q ≤ length (now w)) ⌝ }
-    ensures { λ r. ⌜ Sharing (now (w .entry)) cap p q r ⌝ }
+    ensures { λ r. ⌜ Sharing (now (w .entry)) (cap .0) p q r ⌝ }
 {
     if p == 0 {
         return false;
@@ -21,7 +23,7 @@ fn beside(w: &[u16], p: usize, q: usize, cap: u32) -> bool
     if q == w.len() {
         return false;
     }
-    get(w, p - 1) + get(w, q) <= cap
+    get(w, p - 1) + get(w, q) <= cap.0
 }
 
 // What the rest adds where no two components stand beside each other.
@@ -41,9 +43,9 @@ fn ending(h: &[u16], e: &[u32], p: usize, q: usize, a: u32, b: u32) -> u32
 }
 
 // The entry (p, q), from entries that are there already.
-fn walk(h: &[u16], w: &[u16], e: &[u32], p: usize, q: usize, cap: u32) -> u32
-    requires { ⌜ Ready (now h) (now w) (now e) cap p q ⌝ }
-    ensures { λ r. ⌜ r ≡ entry (now (h .entry)) (now (w .entry)) cap p q ⌝ }
+fn walk(h: &[u16], w: &[u16], e: &[u32], p: usize, q: usize, cap: Slices) -> u32
+    requires { ⌜ Ready (now h) (now w) (now e) (cap .0) p q ⌝ }
+    ensures { λ r. ⌜ r ≡ entry (now (h .entry)) (now (w .entry)) (cap .0) p q ⌝ }
 {
     let mut x = p;
     let mut y = q;
@@ -64,15 +66,15 @@ fn walk(h: &[u16], w: &[u16], e: &[u32], p: usize, q: usize, cap: u32) -> u32
 }
 
 // Row p of the table, from the right end down to column p.
-fn fill_row(h: &[u16], w: &[u16], e: &mut [u32], p: usize, cap: u32)
-    requires { ⌜ RowAsks (now h) (now w) (now e) cap p ⌝ }
-    ensures { λ _. ⌜ RowDone (now (h .entry)) (now (w .entry)) (now (e .entry)) (now (e .exit)) cap p p ⌝ }
+fn fill_row(h: &[u16], w: &[u16], e: &mut [u32], p: usize, cap: Slices)
+    requires { ⌜ RowAsks (now h) (now w) (now e) (cap .0) p ⌝ }
+    ensures { λ _. ⌜ RowDone (now (h .entry)) (now (w .entry)) (now (e .entry)) (now (e .exit)) (cap .0) p p ⌝ }
 {
     let mut q = h.len();
     while p < q {
         q -= 1;
         let v = walk(h, w, e, p, q, cap);
-        e[p * 65 + q] = v;
+        e[p * STRIDE + q] = v;
     }
 }
 
@@ -98,15 +100,15 @@ fn fill_side(h: &[u16], e: &mut [u32])
     let m = h.len();
     let mut p = 0;
     while p < m {
-        let s = e[p * 65 + m] + get(h, p);
+        let s = e[p * STRIDE + m] + get(h, p);
         p += 1;
-        e[p * 65 + m] = s;
+        e[p * STRIDE + m] = s;
     }
 }
 
-pub fn fill(h: &[u16], w: &[u16], e: &mut [u32], cap: u32)
+pub fn fill(h: &[u16], w: &[u16], e: &mut [u32], cap: Slices)
     requires { ⌜ Asks (now h) (now w) (now e) ⌝ }
-    ensures { λ _. ⌜ Filled (now (h .entry)) (now (w .entry)) (now (e .exit)) cap ⌝ }
+    ensures { λ _. ⌜ Filled (now (h .entry)) (now (w .entry)) (now (e .exit)) (cap .0) ⌝ }
 {
     fill_top(h, e);
     fill_side(h, e);

@@ -3,12 +3,12 @@ ghost use mathlib.Core.Path.{_≡_};
 ghost use mathlib.Core.List.{_∷_, _++_};
 ghost use Prim.Native.Nat.{_+_, _*_, _≤_, _<_};
 ghost use lib.ListN.{length, getD, take, drop};
-ghost use Rattle.group.specs.Group.{groupPlaces};
+ghost use Rattle.terms.specs.Numbers.{mostApart};
 ghost use Rattle.group.specs.Table.{bare};
-ghost use Rattle.folding.specs.Placement.{flatOf};
-ghost use Rattle.group_trace.specs.Trace.{WriteAsks, TurnAsks, Turned};
+ghost use Rattle.group_trace.specs.Trace.{WriteAsks, TurnAsks, Turned, groupInto};
 use numbers::cell;
 use numbers::get;
+use terms::Slices;
 
 // Which side the next component goes to, and the rows where the sides go on.
 struct Turn {
@@ -18,14 +18,14 @@ struct Turn {
 }
 
 // Both sides have components left: the lower one goes first where the two fit side by side, else the one that leaves the fewer rows.
-fn meet(h: &[u16], w: &[u16], e: &[u32], p: usize, q: usize, a: u32, b: u32, cap: u32) -> Turn
-    requires { ⌜ TurnAsks (now h) (now w) (now e) p q a b cap × (0 < p) × (q < length (now h)) ⌝ }
-    ensures { λ r. ⌜ Turned cap (bare (now (h .entry)) (now (w .entry))) p q a b r ⌝ }
+fn meet(h: &[u16], w: &[u16], e: &[u32], p: usize, q: usize, a: u32, b: u32, cap: Slices) -> Turn
+    requires { ⌜ TurnAsks (now h) (now w) (now e) p q a b (cap .0) × (0 < p) × (q < length (now h)) ⌝ }
+    ensures { λ r. ⌜ Turned (cap .0) (bare (now (h .entry)) (now (w .entry))) p q a b r ⌝ }
 {
     let x = p - 1;
     let c = a + get(h, x);
     let d = b + get(h, q);
-    if get(w, x) + get(w, q) <= cap {
+    if get(w, x) + get(w, q) <= cap.0 {
         if c <= d {
             return Turn {
                 left: true,
@@ -53,9 +53,9 @@ fn meet(h: &[u16], w: &[u16], e: &[u32], p: usize, q: usize, a: u32, b: u32, cap
     }
 }
 
-fn next(h: &[u16], w: &[u16], e: &[u32], p: usize, q: usize, a: u32, b: u32, cap: u32) -> Turn
-    requires { ⌜ TurnAsks (now h) (now w) (now e) p q a b cap ⌝ }
-    ensures { λ r. ⌜ Turned cap (bare (now (h .entry)) (now (w .entry))) p q a b r ⌝ }
+fn next(h: &[u16], w: &[u16], e: &[u32], p: usize, q: usize, a: u32, b: u32, cap: Slices) -> Turn
+    requires { ⌜ TurnAsks (now h) (now w) (now e) p q a b (cap .0) ⌝ }
+    ensures { λ r. ⌜ Turned (cap .0) (bare (now (h .entry)) (now (w .entry))) p q a b r ⌝ }
 {
     if p == 0 {
         return Turn {
@@ -75,7 +75,7 @@ fn next(h: &[u16], w: &[u16], e: &[u32], p: usize, q: usize, a: u32, b: u32, cap
 }
 
 fn put(out: &mut [u32], i: usize, group: u32, side: u32, start: u32)
-    requires { ⌜ (i < 256) × (3 * i + 2 < length (now out)) ⌝ }
+    requires { ⌜ (i < mostApart) × (3 * i + 2 < length (now out)) ⌝ }
     ensures { λ _. ⌜ now (out .exit) ≡ take (3 * i) (now (out .entry)) ++ (group ∷ side ∷ start ∷ drop (3 * i + 3) (now (out .entry))) ⌝ }
 {
     out[3 * i] = group;
@@ -83,9 +83,18 @@ fn put(out: &mut [u32], i: usize, group: u32, side: u32, start: u32)
     out[3 * i + 2] = start;
 }
 
-pub fn write_group(h: &[u16], w: &[u16], e: &[u32], out: &mut [u32], group: u32, p: usize, cap: u32)
-    requires { ⌜ WriteAsks (now h) (now w) (now e) (now out) p cap ⌝ }
-    ensures { λ _. ⌜ now (out .exit) ≡ flatOf (groupPlaces cap (bare (now (h .entry)) (now (w .entry))) group p) ++ drop (3 * length (now (h .entry))) (now (out .entry)) ⌝ }
+pub fn write_group(
+    h: &[u16],
+    w: &[u16],
+    e: &[u32],
+    out: &mut [u32],
+    group: u32,
+    p: usize,
+    cap: Slices,
+)
+    requires { ⌜ WriteAsks (now h) (now w) (now e) (now out) p (cap .0) ⌝ }
+    ensures { λ _. ⌜ now (out .exit)
+        ≡ groupInto (cap .0) group p (now (h .entry)) (now (w .entry)) (now (out .entry)) ⌝ }
 {
     let mut left = p;
     let mut right = p;

@@ -3,6 +3,7 @@ use Prim.Native.Nat.{ℕ, _+_, _≤_, _<_}
 use mathlib.Core.Path.{_≡_}
 use mathlib.Core.List.{List}
 use lib.ListN.{length, getD}
+use Rattle.terms.specs.Numbers.{mostSize}
 use Rattle.terms.specs.declared.Component.{Component}
 use Rattle.terms.specs.declared.Kind.{Kind}
 use Rattle.terms.specs.Component.{mostOf}
@@ -14,10 +15,10 @@ pub record StackLists (kind : Kind) (hs ws gs : List ℕ) : Type 0 where
   pub same-gaps : length gs ≡ length hs
   pub few : length hs ≤ mostOf kind
   pub tall : (i : ℕ) → i < length hs → 1 ≤ getD hs i 0
-  pub low : (i : ℕ) → getD hs i 0 ≤ 4000
+  pub low : (i : ℕ) → getD hs i 0 ≤ mostSize
   pub wide : (i : ℕ) → i < length hs → 1 ≤ getD ws i 0
-  pub slim : (i : ℕ) → getD ws i 0 ≤ 4000
-  pub near : (i : ℕ) → getD gs i 0 ≤ 4000
+  pub slim : (i : ℕ) → getD ws i 0 ≤ mostSize
+  pub near : (i : ℕ) → getD gs i 0 ≤ mostSize
 
 -- The entry with j components before it.
 pub record PlannedAt (l : Layout) (width height end : ℕ) : Type 0 where

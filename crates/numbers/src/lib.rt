@@ -1,7 +1,12 @@
-// Small functions on numbers, columns of 16-bit numbers and tables with 65 entries a row.
+// Small functions on numbers, columns of 16-bit numbers and tables.
 ghost use mathlib.Core.Path.{_≡_};
 ghost use Prim.Native.Nat.{_+_, _*_, _≤_, _<_, min, max};
 ghost use lib.ListN.{length, getD};
+ghost use Rattle.terms.specs.Numbers.{mostNested};
+ghost use Rattle.numbers.specs.Table.{stride, cells};
+
+// The entries of a row of a table: one more than a group that is folded may have components.
+pub const STRIDE: usize = terms::MOST_NESTED + 1;
 
 pub fn wide(x: u16) -> u32
     ensures { λ r. ⌜ r ≡ x ⌝ }
@@ -19,10 +24,10 @@ pub fn get(column: &[u16], i: usize) -> u32
 }
 
 pub fn cell(table: &[u32], p: usize, q: usize) -> u32
-    requires { ⌜ (p ≤ 64) × (q ≤ 64) × (4225 ≤ length (now table)) ⌝ }
-    ensures { λ r. ⌜ r ≡ getD (now (table .entry)) (p * 65 + q) 0 ⌝ }
+    requires { ⌜ (p ≤ mostNested) × (q ≤ mostNested) × (cells ≤ length (now table)) ⌝ }
+    ensures { λ r. ⌜ r ≡ getD (now (table .entry)) (p * stride + q) 0 ⌝ }
 {
-    table[p * 65 + q]
+    table[p * STRIDE + q]
 }
 
 pub fn lesser(a: u32, b: u32) -> u32

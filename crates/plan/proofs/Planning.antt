@@ -126,15 +126,15 @@ module _ {kind : Kind} {limit : ℕ} {hs ws gs widths₀ heights₀ ends₀ es�
       }
 
       pub plan-more : (b : Best) → layoutIn b ≡ getD (layouts kind limit 0 (componentsIn hs ws gs)) i unmet
-          → PlannedFrom kind limit (componentsIn hs ws gs) (set widths i (b .width)) (set heights i (b .height)) (set ends i (b .end)) i
+          → PlannedFrom kind limit (componentsIn hs ws gs) (set widths i (b .width .0)) (set heights i (b .height .0)) (set ends i (b .end)) i
       plan-more b f = record { at = λ j h k. go j k (eq-or-lt-of-le h) }
         where
-          go : (j : ℕ) → j ≤ length cs → (i ≡ j) ⊎ (i < j) → PlannedAt (getD (layouts kind limit 0 cs) j unmet) (getD (set widths i (b .width)) j 0) (getD (set heights i (b .height)) j 0) (getD (set ends i (b .end)) j 0)
+          go : (j : ℕ) → j ≤ length cs → (i ≡ j) ⊎ (i < j) → PlannedAt (getD (layouts kind limit 0 cs) j unmet) (getD (set widths i (b .width .0)) j 0) (getD (set heights i (b .height .0)) j 0) (getD (set ends i (b .end)) j 0)
           go j k (inl q) = rw (← q, ← f) (record {
-            width-is = getD-set-same widths i (b .width) 0 (omega (arith, a .widths-long, length-set widths₀ (length hs) 0));
-            height-is = getD-set-same heights i (b .height) 0 (omega (arith, a .heights-long, length-set heights₀ (length hs) 0));
+            width-is = getD-set-same widths i (b .width .0) 0 (omega (arith, a .widths-long, length-set widths₀ (length hs) 0));
+            height-is = getD-set-same heights i (b .height .0) 0 (omega (arith, a .heights-long, length-set heights₀ (length hs) 0));
             end-is = getD-set-same ends i (b .end) 0 (omega (arith, a .ends-long, length-set ends₀ (length hs) 0));
           })
           go j k (inr q) =
               let n : j ≡ i → ⊥ = λ z. omega arith in
-              rw (getD-set-other widths i j (b .width) 0 n, getD-set-other heights i j (b .height) 0 n, getD-set-other ends i j (b .end) 0 n) (s .at j (omega arith) k)
+              rw (getD-set-other widths i j (b .width .0) 0 n, getD-set-other heights i j (b .height .0) 0 n, getD-set-other ends i j (b .end) 0 n) (s .at j (omega arith) k)

@@ -6,6 +6,7 @@ use native.Mathlib.Numerals.{add-one}
 use native.Mathlib.Omega.{arith}
 use lib.ListN.{length, getD, take}
 use lib.Seq.{length-take-le}
+use Rattle.terms.specs.Numbers.{leastWork}
 use Rattle.terms.specs.declared.Component.{Component}
 use Rattle.terms.specs.declared.Kind.{Kind}
 use Rattle.terms.specs.Component.{componentIn, componentsIn}
@@ -13,7 +14,7 @@ use Rattle.group.specs.Rows.{tall}
 use Rattle.group.specs.Group.{none, widest}
 use Rattle.layout.specs.Layout.{Layout, unmet, candidate, choice, layouts, layoutOf}
 use Rattle.plan.specs.declared.Best.{Best}
-use Rattle.plan.specs.Asks.{layoutIn, GroupAsks, mostRows, restAt, FirstAsks, bestTo}
+use Rattle.plan.specs.Asks.{layoutIn, GroupAsks, Packed, mostRows, restAt, FirstAsks, bestTo}
 use Rattle.plan.proofs.Columns.{component-at, tall-more, widest-more}
 use Rattle.layout.proofs.Scan.{no-wider}
 use Rattle.layout.proofs.Prune.{Fair}
@@ -23,6 +24,9 @@ use Rattle.layout.proofs.Columns.{components-length, components-take, lists-tak
 
 same-rest : (kind : Kind) (limit g0 : ℕ) (cs : List Component) (p q : Layout) (k : ℕ) → p .width ≡ q .width → p .height ≡ q .height → candidate kind limit g0 cs p k ≡ candidate kind limit g0 cs q k
 same-rest kind limit g0 cs p q k e f = rw (e, f)
+
+same-choice : (p p′ q q′ : Layout) → p ≡ p′ → q ≡ q′ → choice p q ≡ choice p′ q′
+same-choice p p′ q q′ e f = rw (e, f)
 
 -- All first groups of at most k components are searched.
 pub record Scanned (kind : Kind) (limit g0 : ℕ) (cs : List Component) (best : Best) (rows wide k : ℕ) : Type 0 where
@@ -39,7 +43,7 @@ module _ {kind : Kind} {limit g0 : ℕ} {hs ws gs widths heights es : List ℕ} 
   long : length (componentsIn hs ws gs) ≡ length hs
   long = components-length hs ws gs
 
-  pub scan-start : Scanned kind limit g0 (componentsIn hs ws gs) (record { width = 4000000; height = 4000000; end = 0 }) 0 0 0
+  pub scan-start : Scanned kind limit g0 (componentsIn hs ws gs) (record { width = record { 0 = none }; height = record { 0 = none }; end = 0 }) 0 0 0
   unfolding tall widest
   scan-start = record { within = omega arith; best-is = sym (best-none kind limit g0 cs); tall-is = refl; low = omega arith; widest-is = refl }
 
@@ -71,8 +75,8 @@ module _ {kind : Kind} {limit g0 : ℕ} {hs ws gs widths heights es : List ℕ} 
         part = components-take hs ws gs (k + 1) (omega arith) ∙ ap (λ (z : ℕ). take z cs) (add-one k)
 
         pub group-asks : (now : List ℕ) → length now ≡ length es
-            → (GroupAsks kind limit g0 wider (take (k + 1) hs) (take (k + 1) ws) (take (k + 1) gs) best rest)
-            × (rows + x ≡ tall (componentsIn (take (k + 1) hs) (take (k + 1) ws) (take (k + 1) gs))) × (rows + x ≤ 4000000) × (8192 ≤ length now)
+            → GroupAsks kind limit g0 wider (take (k + 1) hs) (take (k + 1) ws) (take (k + 1) gs) best rest
+            × (Packed (rows + x) (take (k + 1) hs) (take (k + 1) ws) (take (k + 1) gs) × (leastWork ≤ length now))
         group-asks now n = (
           record {
             lists = lists-take (a .lists) (k + 1) (omega arith);
@@ -81,24 +85,25 @@ module _ {kind : Kind} {limit g0 : ℕ} {hs ws gs widths heights es : List ℕ} 
             before = a .before;
             widest-is = wide-more ∙ ap widest (sym part);
             fair = subst (λ (z : Layout). Fair z) (sym (s .best-is)) (best-fair kind limit g0 cs k);
-            rest-width = omega (arith, ap (λ (z : Best). z .width) er, a .later .width-is k (omega (arith, long)), no-wider (getD (layouts kind limit g0 cs) (suc k) unmet) none none (layouts-fair kind limit g0 cs (suc k)));
+            rest-width = omega (arith, ap (λ (z : Best). z .width .0) er, a .later .width-is k (omega (arith, long)), no-wider (getD (layouts kind limit g0 cs) (suc k) unmet) none none (layouts-fair kind limit g0 cs (suc k)));
           },
-          rows-more ∙ ap tall (sym part),
-          omega arith,
-          omega (arith, a .room),
+          ((rows-more ∙ ap tall (sym part), omega arith), omega (arith, a .room)),
         )
+
+        candidate-same : candidate kind limit g0 (componentsIn (take (k + 1) hs) (take (k + 1) ws) (take (k + 1) gs)) (layoutIn rest) (k + 1)
+            ≡ candidate kind limit g0 (take (suc k) (componentsIn hs ws gs)) (getD (layouts kind limit g0 (componentsIn hs ws gs)) (suc k) unmet) (suc k)
+        candidate-same =
+            let lk : k < length cs = omega (arith, long) in
+            rw (part, add-one k)
+            (same-rest kind limit g0 (take (suc k) cs) (layoutIn rest) (getD (layouts kind limit g0 cs) (suc k) unmet) (suc k) (rw er (a .later .width-is k lk)) (rw er (a .later .height-is k lk)))
 
         pub scan-more : (r : Best)
             → layoutIn r ≡ choice (candidate kind limit g0 (componentsIn (take (k + 1) hs) (take (k + 1) ws) (take (k + 1) gs)) (layoutIn rest) (k + 1)) (layoutIn best)
             → Scanned kind limit g0 (componentsIn hs ws gs) r (rows + x) wider (k + 1)
         scan-more r e =
-            let lk : k < length cs = omega (arith, long) in
             rw (add-one k) (record {
               within = omega (arith, long);
-              best-is =
-                  e
-                  ∙ rw (part, add-one k, s .best-is, same-rest kind limit g0 (take (suc k) cs) (layoutIn rest) (getD (layouts kind limit g0 cs) (suc k) unmet) (suc k) (rw er (a .later .width-is k lk)) (rw er (a .later .height-is k lk)))
-                  (sym (best-more kind limit g0 cs k));
+              best-is = e ∙ same-choice _ _ _ _ candidate-same (s .best-is) ∙ sym (best-more kind limit g0 cs k);
               tall-is = rows-more;
               low = omega arith;
               widest-is = wide-more;

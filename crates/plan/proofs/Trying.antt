@@ -40,7 +40,7 @@ module _ {kind : Kind} {limit g0 wide : ℕ} {hs ws gs : List ℕ} {best rest : 
   pub wide-4000 : wide ≤ 4000
   wide-4000 = omega (arith, a .widest-is, widest-4000 kind hs ws gs (a .lists))
 
-  pub rest-none : none ≤ rest .width → layoutIn best ≡ choice (candidate kind limit g0 (componentsIn hs ws gs) (layoutIn rest) (length hs)) (layoutIn best)
+  pub rest-none : none ≤ rest .width .0 → layoutIn best ≡ choice (candidate kind limit g0 (componentsIn hs ws gs) (layoutIn rest) (length hs)) (layoutIn best)
   rest-none h = sym (skip-rest kind limit g0 (componentsIn hs ws gs) (layoutIn rest) (length hs) (layoutIn best) (a .fair) h)
 
 flat-is : (g0 : ℕ) (cs : List Component) (cap : ℕ) → leastHeight Apart g0 cs cap ≡ flatHeight g0 cs
@@ -58,8 +58,8 @@ module _ {limit g0 wide : ℕ} {hs ws gs : List ℕ} {best rest : Best} (a : Gro
       sym (rw (group-unmet Apart limit g0 (componentsIn hs ws gs) (layoutIn rest) (length hs) (omega (arith, apart-unmet g0 (componentsIn hs ws gs) limit (omega (arith, flat)))))
       (choice-unmet (layoutIn best) (a .fair)))
 
-  pub flat-tried : (r : Layout) (height end : ℕ) → rows + g0 + last ≤ limit → rest .width < none → height ≡ max (rows + g0 + last) (rest .height) → end ≡ length hs
-      → r ≡ choice (record { width = wide + rest .width; height = height; end = end }) (layoutIn best)
+  pub flat-tried : (r : Layout) (height end : ℕ) → rows + g0 + last ≤ limit → rest .width .0 < none → height ≡ max (rows + g0 + last) (rest .height .0) → end ≡ length hs
+      → r ≡ choice (record { width = wide + rest .width .0; height = height; end = end }) (layoutIn best)
       → r ≡ choice (candidate Apart limit g0 (componentsIn hs ws gs) (layoutIn rest) (length hs)) (layoutIn best)
   flat-tried r height end h o eh ee er =
       let w : leastWidth Apart g0 (componentsIn hs ws gs) limit ≡ widest (componentsIn hs ws gs) = apart-met g0 (componentsIn hs ws gs) limit (omega (arith, flat)) in
@@ -85,11 +85,11 @@ module _ {limit g0 wide : ℕ} {hs ws gs : List ℕ} {best rest : Best} (a : Gro
     limit-low = a .limit-most;
   }
 
-  pub folds-wide : best .width < rest .width + wide → layoutIn best ≡ choice (candidate Nested limit g0 (componentsIn hs ws gs) (layoutIn rest) (length hs)) (layoutIn best)
+  pub folds-wide : best .width .0 < rest .width .0 + wide → layoutIn best ≡ choice (candidate Nested limit g0 (componentsIn hs ws gs) (layoutIn rest) (length hs)) (layoutIn best)
   folds-wide h =
       sym (skip-widest Nested limit g0 (componentsIn hs ws gs) (layoutIn rest) (length hs) (layoutIn best) (a .fair) (omega (arith, a .widest-is)))
 
-  module _ (cap nw nh : ℕ) (o : rest .width < none) (q : rest .width + wide ≤ best .width) (e : cap ≡ min (2 * wide) (best .width - rest .width)) (n : Narrow g0 hs ws gs limit cap nw nh) where
+  module _ (cap nw nh : ℕ) (o : rest .width .0 < none) (q : rest .width .0 + wide ≤ best .width .0) (e : cap ≡ min (2 * wide) (best .width .0 - rest .width .0)) (n : Narrow g0 hs ws gs limit cap nw nh) where
     pub folds-none : none ≤ nw → layoutIn best ≡ choice (candidate Nested limit g0 (componentsIn hs ws gs) (layoutIn rest) (length hs)) (layoutIn best)
     folds-none h = sym (go (order w cap))
       where
@@ -98,8 +98,8 @@ module _ {limit g0 wide : ℕ} {hs ws gs : List ℕ} {best rest : Best} (a : Gro
         go (inr p) =
             skip-both Nested limit g0 (componentsIn hs ws gs) (layoutIn rest) (length hs) (layoutIn best) (a .fair) cap (omega (arith, a .widest-is)) (omega arith) p
 
-    pub folds-tried : (r : Layout) (height end : ℕ) → nw < none → height ≡ max nh (rest .height) → end ≡ length hs
-        → r ≡ choice (record { width = nw + rest .width; height = height; end = end }) (layoutIn best)
+    pub folds-tried : (r : Layout) (height end : ℕ) → nw < none → height ≡ max nh (rest .height .0) → end ≡ length hs
+        → r ≡ choice (record { width = nw + rest .width .0; height = height; end = end }) (layoutIn best)
         → r ≡ choice (candidate Nested limit g0 (componentsIn hs ws gs) (layoutIn rest) (length hs)) (layoutIn best)
     folds-tried r height end h eh ee er = go (order w cap)
       where

@@ -1,32 +1,42 @@
--- What the functions of this crate ask and promise each other. `PlanAsks`, `Plannable` and `bestAt` belong to what other crates call.
+-- What the functions of this crate ask and promise each other. `Plannable` and `bestAt` belong to what other crates call.
 use Prim.Native.Nat.{ℕ, zero, suc, _*_, _≤_, _<_}
 use mathlib.Core.Path.{_≡_}
 use mathlib.Core.Logic.{_⊎_}
 use mathlib.Core.List.{List}
 use lib.ListN.{length, getD, drop}
+use Rattle.terms.specs.Numbers.{mostSize, mostLimit, leastWork}
 use Rattle.terms.specs.declared.Component.{Component}
 use Rattle.terms.specs.declared.Kind.{Kind}
 use Rattle.terms.specs.declared.Kind.the-variants.{Apart, Nested}
 use Rattle.terms.specs.Component.{componentsIn}
+use Rattle.group.specs.Rows.{tall}
 use Rattle.group.specs.Group.{none, widest}
 use Rattle.folding.specs.declared.Outline.{Outline}
-use Rattle.layout.specs.Layout.{Layout, unmet, scan, layouts, layoutOf}
+use Rattle.layout.specs.Layout.{Layout, unmet, candidate, choice, scan, layouts, layoutOf}
 use Rattle.layout.specs.Table.{outline}
 use Rattle.layout.specs.Plan.{StackLists, PlannedAt}
 use Rattle.plan.specs.declared.Best.{Best}
 
 abbrev pub layoutIn : Best → Layout
-layoutIn b = record { width = b .width; height = b .height; end = b .end }
+layoutIn b = record { width = b .width .0; height = b .height .0; end = b .end }
 
 -- One group, and the best layout so far, which the group may improve.
 pub record GroupAsks (kind : Kind) (limit g0 wide : ℕ) (hs ws gs : List ℕ) (best rest : Best) : Type 0 where
   pub lists : StackLists kind hs ws gs
   pub some : 0 < length hs
-  pub limit-most : limit ≤ 2000000
-  pub before : g0 ≤ 4000
+  pub limit-most : limit ≤ mostLimit
+  pub before : g0 ≤ mostSize
   pub widest-is : wide ≡ widest (componentsIn hs ws gs)
-  pub fair : (best .width < none) ⊎ ((best .width ≡ none) × (best .height ≤ none))
-  pub rest-width : rest .width ≤ none
+  pub fair : (best .width .0 < none) ⊎ ((best .width .0 ≡ none) × (best .height .0 ≤ none))
+  pub rest-width : rest .width .0 ≤ none
+
+-- The rows of the group's components without empty rows between them.
+abbrev pub Packed : ℕ → List ℕ → List ℕ → List ℕ → Type 0
+Packed rows hs ws gs = (rows ≡ tall (componentsIn hs ws gs)) × (rows ≤ none)
+
+-- The best layout once the group of k components is tried in front of the rest.
+abbrev pub tried : Kind → ℕ → ℕ → ℕ → List ℕ → List ℕ → List ℕ → Best → Best → Layout
+tried kind limit g0 k hs ws gs best rest = choice (candidate kind limit g0 (componentsIn hs ws gs) (layoutIn rest) k) (layoutIn best)
 
 -- No group with more rows than this in its components keeps the limit.
 abbrev pub mostRows : Kind → ℕ → ℕ
@@ -35,7 +45,7 @@ mostRows Nested limit = 2 * limit
 
 -- A first group does not ask where the rest has its own groups.
 abbrev pub restAt : List ℕ → List ℕ → ℕ → Best
-restAt widths heights k = record { width = getD widths k 0; height = getD heights k 0; end = 0 }
+restAt widths heights k = record { width = record { 0 = getD widths k 0 }; height = record { 0 = getD heights k 0 }; end = 0 }
 
 -- Two lists hold the best layouts behind 1, 2, 3 and so on components.
 pub record Later (kind : Kind) (limit g0 : ℕ) (cs : List Component) (widths heights : List ℕ) : Type 0 where
@@ -45,11 +55,11 @@ pub record Later (kind : Kind) (limit g0 : ℕ) (cs : List Component) (widths he
 pub record FirstAsks (kind : Kind) (limit g0 : ℕ) (hs ws gs widths heights es : List ℕ) : Type 0 where
   pub lists : StackLists kind hs ws gs
   pub some : 0 < length hs
-  pub limit-most : limit ≤ 2000000
-  pub before : g0 ≤ 4000
+  pub limit-most : limit ≤ mostLimit
+  pub before : g0 ≤ mostSize
   pub widths-long : length hs ≤ length widths
   pub heights-long : length hs ≤ length heights
-  pub room : 8192 ≤ length es
+  pub room : leastWork ≤ length es
   pub later : Later kind limit g0 (componentsIn hs ws gs) widths heights
 
 -- The best layout with at most k components in the first group.
@@ -60,21 +70,21 @@ bestTo kind limit g0 cs k = scan kind limit g0 cs (drop 1 (layouts kind limit g0
 pub record FromAsks (kind : Kind) (limit i : ℕ) (hs ws gs widths heights es : List ℕ) : Type 0 where
   pub lists : StackLists kind hs ws gs
   pub within : i < length hs
-  pub limit-most : limit ≤ 2000000
+  pub limit-most : limit ≤ mostLimit
   pub widths-long : length hs < length widths
   pub heights-long : length hs < length heights
-  pub room : 8192 ≤ length es
+  pub room : leastWork ≤ length es
   pub width-is : (j : ℕ) → i < j → j ≤ length hs → getD widths j 0 ≡ getD (layouts kind limit 0 (componentsIn hs ws gs)) j unmet .width
   pub height-is : (j : ℕ) → i < j → j ≤ length hs → getD heights j 0 ≡ getD (layouts kind limit 0 (componentsIn hs ws gs)) j unmet .height
 
 pub record PlanAsks (kind : Kind) (limit : ℕ) (hs ws gs widths heights ends es : List ℕ) : Type 0 where
   pub lists : StackLists kind hs ws gs
   pub some : 0 < length hs
-  pub limit-most : limit ≤ 2000000
+  pub limit-most : limit ≤ mostLimit
   pub widths-long : length hs < length widths
   pub heights-long : length hs < length heights
   pub ends-long : length hs < length ends
-  pub room : 8192 ≤ length es
+  pub room : leastWork ≤ length es
 
 -- The gap before the component with i others before it.
 abbrev pub gapBefore : List ℕ → ℕ → ℕ
@@ -89,7 +99,7 @@ pub record PlannedFrom (kind : Kind) (limit : ℕ) (cs : List Component) (widths
 pub record Plannable (kind : Kind) (hs ws gs work : List ℕ) : Type 0 where
   pub lists : StackLists kind hs ws gs
   pub some : 0 < length hs
-  pub room : 8192 ≤ length work
+  pub room : leastWork ≤ length work
 
 -- The outline of the best layout for the limit.
 abbrev pub bestAt : Kind → ℕ → List Component → Outline

@@ -3,29 +3,42 @@ ghost use mathlib.Core.Path.{_≡_};
 ghost use mathlib.Core.Bool.{Bool};
 ghost use Prim.Native.Nat.{ℕ, _+_, _*_, _≤_, _<_, min, max};
 ghost use lib.ListN.{length, getD, take};
+ghost use Rattle.terms.specs.Numbers.{mostApart, mostLimit, leastWork};
 ghost use Rattle.terms.specs.declared.Kind.the-variants.{Apart, Nested};
 ghost use Rattle.terms.specs.Component.{componentsIn};
-ghost use Rattle.group.specs.Rows as Chains;
-ghost use Rattle.layout.specs.Layout.{better, candidate, choice, unmet, layouts, layoutOf};
+ghost use Rattle.group.specs.Group.{none};
+ghost use Rattle.layout.specs.Layout.{better, choice, unmet, layouts, layoutOf};
 ghost use Rattle.layout.specs.Plan.{Planned};
-ghost use Rattle.plan.specs.Asks.{layoutIn, GroupAsks, mostRows, restAt, FirstAsks, FromAsks, PlanAsks, gapBefore, Plannable, bestAt};
+ghost use Rattle.plan.specs.Asks.{layoutIn, GroupAsks, Packed, tried, mostRows, restAt, FirstAsks, FromAsks, PlanAsks, gapBefore, Plannable, bestAt};
 use folding::Outline;
+use group::NONE;
 use numbers::larger;
 use numbers::lesser;
 use numbers::wide;
 use terms::Kind;
+use terms::MOST_APART;
 use terms::Rows;
 use terms::Slices;
 
-// A layout: its width, its height, and how many components its first group has. 4,000,000 in width and height means that there is none.
-pub struct Best {
-    pub width: u32,
-    pub height: u32,
-    pub end: u32,
+// A layout: its width, its height, and how many components its first group has. A width of NONE means that there is none.
+struct Best {
+    width: Slices,
+    height: Rows,
+    end: u32,
+}
+
+// One more than a stack may have components.
+pub const LISTED: usize = MOST_APART + 1;
+
+// The best layouts of a stack and of what is left of it behind 1, 2, 3 and so on components.
+pub struct Layouts {
+    pub widths: [u32; LISTED],
+    pub heights: [u32; LISTED],
+    pub ends: [u32; LISTED],
 }
 
 fn count(n: usize) -> u32
-    requires { ⌜ n ≤ 256 ⌝ }
+    requires { ⌜ n ≤ mostApart ⌝ }
     ensures { λ r. ⌜ r ≡ n ⌝ }
 {
     n as u32
@@ -34,11 +47,11 @@ fn count(n: usize) -> u32
 fn is_better(a: Best, b: Best) -> bool
     ensures { λ r. ⌜ r ≡ better (layoutIn a) (layoutIn b) ⌝ }
 {
-    if a.width < b.width {
+    if a.width.0 < b.width.0 {
         return true;
     }
-    if a.width == b.width {
-        return a.height < b.height;
+    if a.width.0 == b.width.0 {
+        return a.height.0 < b.height.0;
     }
     false
 }
@@ -54,44 +67,46 @@ fn pick(a: Best, b: Best) -> Best
 }
 
 // No group with more rows than this in its components keeps the limit.
-fn most_rows(kind: Kind, limit: u32) -> u32
-    requires { ⌜ limit ≤ 2000000 ⌝ }
-    ensures { λ r. ⌜ r ≡ mostRows kind limit ⌝ }
-    ensures { λ r. ⌜ r ≤ 4000000 ⌝ }
+fn most_rows(kind: Kind, limit: Rows) -> Rows
+    requires { ⌜ limit .0 ≤ mostLimit ⌝ }
+    ensures { λ r. ⌜ r .0 ≡ mostRows kind (limit .0) ⌝ }
+    ensures { λ r. ⌜ r .0 ≤ none ⌝ }
 {
     match kind {
         Kind::Apart => limit,
-        Kind::Nested => 2 * limit,
+        Kind::Nested => Rows(2 * limit.0),
     }
 }
 
 // A group without a fold in front of the rest.
 fn try_flat(
-    limit: u32,
-    g0: u32,
-    tall: u32,
-    widest: u32,
+    limit: Rows,
+    g0: Rows,
+    tall: Rows,
+    widest: Slices,
     h: &[u16],
     w: &[u16],
     g: &[u16],
     best: Best,
     rest: Best,
 ) -> Best
-    requires { ⌜ GroupAsks Apart limit g0 widest (now h) (now w) (now g) best rest × (tall ≡ Chains.tall (componentsIn (now h) (now w) (now g))) × (tall ≤ 4000000) ⌝ }
-    ensures { λ r. ⌜ layoutIn r ≡ choice (candidate Apart limit g0 (componentsIn (now (h .entry)) (now (w .entry)) (now (g .entry))) (layoutIn rest) (length (now (h .entry)))) (layoutIn best) ⌝ }
+    requires { ⌜ GroupAsks Apart (limit .0) (g0 .0) (widest .0) (now h) (now w) (now g) best rest ⌝ }
+    requires { ⌜ Packed (tall .0) (now h) (now w) (now g) ⌝ }
+    ensures { λ r. ⌜ layoutIn r
+        ≡ tried Apart (limit .0) (g0 .0) (length (now (h .entry))) (now (h .entry)) (now (w .entry)) (now (g .entry)) best rest ⌝ }
 {
     let k = h.len();
-    let height = tall + g0 + wide(g[k - 1]);
-    if limit < height {
+    let height = tall.0 + g0.0 + wide(g[k - 1]);
+    if limit.0 < height {
         return best;
     }
-    if 4000000 <= rest.width {
+    if NONE <= rest.width.0 {
         return best;
     }
     pick(
         Best {
-            width: widest + rest.width,
-            height: larger(height, rest.height),
+            width: Slices(widest.0 + rest.width.0),
+            height: Rows(larger(height, rest.height.0)),
             end: count(k),
         },
         best,
@@ -100,9 +115,9 @@ fn try_flat(
 
 // A group with the fold that makes it narrowest in front of the rest. A group that is too wide to improve the best layout need not be searched.
 fn try_folds(
-    limit: u32,
-    g0: u32,
-    widest: u32,
+    limit: Rows,
+    g0: Rows,
+    widest: Slices,
     h: &[u16],
     w: &[u16],
     g: &[u16],
@@ -110,24 +125,26 @@ fn try_folds(
     rest: Best,
     work: &mut [u32],
 ) -> Best
-    requires { ⌜ GroupAsks Nested limit g0 widest (now h) (now w) (now g) best rest × (8192 ≤ length (now work)) ⌝ }
-    ensures { λ r. ⌜ layoutIn r ≡ choice (candidate Nested limit g0 (componentsIn (now (h .entry)) (now (w .entry)) (now (g .entry))) (layoutIn rest) (length (now (h .entry)))) (layoutIn best) ⌝ }
+    requires { ⌜ GroupAsks Nested (limit .0) (g0 .0) (widest .0) (now h) (now w) (now g) best rest ⌝ }
+    requires { ⌜ leastWork ≤ length (now work) ⌝ }
+    ensures { λ r. ⌜ layoutIn r
+        ≡ tried Nested (limit .0) (g0 .0) (length (now (h .entry))) (now (h .entry)) (now (w .entry)) (now (g .entry)) best rest ⌝ }
 {
-    if 4000000 <= rest.width {
+    if NONE <= rest.width.0 {
         return best;
     }
-    if best.width < rest.width + widest {
+    if best.width.0 < rest.width.0 + widest.0 {
         return best;
     }
-    let cap = lesser(2 * widest, best.width - rest.width);
+    let cap = Slices(lesser(2 * widest.0, best.width.0 - rest.width.0));
     let n = group_height::narrowest(g0, h, w, g, work, limit, widest, cap);
-    if 4000000 <= n.width {
+    if NONE <= n.width.0 {
         return best;
     }
     pick(
         Best {
-            width: n.width + rest.width,
-            height: larger(n.height, rest.height),
+            width: Slices(n.width.0 + rest.width.0),
+            height: Rows(larger(n.height.0, rest.height.0)),
             end: count(h.len()),
         },
         best,
@@ -136,10 +153,10 @@ fn try_folds(
 
 fn try_group(
     kind: Kind,
-    limit: u32,
-    g0: u32,
-    tall: u32,
-    widest: u32,
+    limit: Rows,
+    g0: Rows,
+    tall: Rows,
+    widest: Slices,
     h: &[u16],
     w: &[u16],
     g: &[u16],
@@ -147,8 +164,11 @@ fn try_group(
     rest: Best,
     work: &mut [u32],
 ) -> Best
-    requires { ⌜ GroupAsks kind limit g0 widest (now h) (now w) (now g) best rest × (tall ≡ Chains.tall (componentsIn (now h) (now w) (now g))) × (tall ≤ 4000000) × (8192 ≤ length (now work)) ⌝ }
-    ensures { λ r. ⌜ layoutIn r ≡ choice (candidate kind limit g0 (componentsIn (now (h .entry)) (now (w .entry)) (now (g .entry))) (layoutIn rest) (length (now (h .entry)))) (layoutIn best) ⌝ }
+    requires { ⌜ GroupAsks kind (limit .0) (g0 .0) (widest .0) (now h) (now w) (now g) best rest ⌝ }
+    requires { ⌜ Packed (tall .0) (now h) (now w) (now g) ⌝ }
+    requires { ⌜ leastWork ≤ length (now work) ⌝ }
+    ensures { λ r. ⌜ layoutIn r
+        ≡ tried kind (limit .0) (g0 .0) (length (now (h .entry))) (now (h .entry)) (now (w .entry)) (now (g .entry)) best rest ⌝ }
 {
     match kind {
         Kind::Apart => try_flat(limit, g0, tall, widest, h, w, g, best, rest),
@@ -159,10 +179,10 @@ fn try_group(
 // The first k components as the group.
 fn try_first(
     kind: Kind,
-    limit: u32,
-    g0: u32,
-    tall: u32,
-    widest: u32,
+    limit: Rows,
+    g0: Rows,
+    tall: Rows,
+    widest: Slices,
     k: usize,
     h: &[u16],
     w: &[u16],
@@ -171,9 +191,12 @@ fn try_first(
     rest: Best,
     work: &mut [u32],
 ) -> Best
-    requires { ⌜ GroupAsks kind limit g0 widest (take k (now h)) (take k (now w)) (take k (now g)) best rest × (tall ≡ Chains.tall (componentsIn (take k (now h)) (take k (now w)) (take k (now g)))) × (tall ≤ 4000000) × (8192 ≤ length (now work)) ⌝ }
+    requires { ⌜ GroupAsks kind (limit .0) (g0 .0) (widest .0) (take k (now h)) (take k (now w)) (take k (now g)) best rest ⌝ }
+    requires { ⌜ Packed (tall .0) (take k (now h)) (take k (now w)) (take k (now g)) ⌝ }
+    requires { ⌜ leastWork ≤ length (now work) ⌝ }
     requires { ⌜ (k ≤ length (now h)) × (k ≤ length (now w)) × (k ≤ length (now g)) ⌝ }
-    ensures { λ r. ⌜ layoutIn r ≡ choice (candidate kind limit g0 (componentsIn (take k (now (h .entry))) (take k (now (w .entry))) (take k (now (g .entry)))) (layoutIn rest) k) (layoutIn best) ⌝ }
+    ensures { λ r. ⌜ layoutIn r ≡ tried kind (limit .0) (g0 .0) k
+        (take k (now (h .entry))) (take k (now (w .entry))) (take k (now (g .entry))) best rest ⌝ }
 {
     try_group(
         kind,
@@ -196,8 +219,8 @@ fn rest_at(widths: &[u32], heights: &[u32], k: usize) -> Best
     ensures { λ r. ⌜ r ≡ restAt (now (widths .entry)) (now (heights .entry)) k ⌝ }
 {
     Best {
-        width: widths[k],
-        height: heights[k],
+        width: Slices(widths[k]),
+        height: Rows(heights[k]),
         end: 0,
     }
 }
@@ -205,8 +228,8 @@ fn rest_at(widths: &[u32], heights: &[u32], k: usize) -> Best
 // The best layout of what is left of a stack, from the best ones behind 1, 2, 3 and so on of its components. Groups that are too tall end the search.
 fn first_group(
     kind: Kind,
-    limit: u32,
-    g0: u32,
+    limit: Rows,
+    g0: Rows,
     h: &[u16],
     w: &[u16],
     g: &[u16],
@@ -214,14 +237,15 @@ fn first_group(
     heights: &[u32],
     work: &mut [u32],
 ) -> Best
-    requires { ⌜ FirstAsks kind limit g0 (now h) (now w) (now g) (now widths) (now heights) (now work) ⌝ }
-    ensures { λ r. ⌜ layoutIn r ≡ layoutOf kind limit g0 (componentsIn (now (h .entry)) (now (w .entry)) (now (g .entry))) ⌝ }
+    requires { ⌜ FirstAsks kind (limit .0) (g0 .0) (now h) (now w) (now g) (now widths) (now heights) (now work) ⌝ }
+    ensures { λ r. ⌜ layoutIn r
+        ≡ layoutOf kind (limit .0) (g0 .0) (componentsIn (now (h .entry)) (now (w .entry)) (now (g .entry))) ⌝ }
 {
     let n = h.len();
     let most = most_rows(kind, limit);
     let mut best = Best {
-        width: 4000000,
-        height: 4000000,
+        width: Slices(NONE),
+        height: Rows(NONE),
         end: 0,
     };
     let mut tall = 0;
@@ -229,31 +253,44 @@ fn first_group(
     let mut k = 0;
     while k < n {
         tall += wide(h[k]);
-        if most < tall {
+        if most.0 < tall {
             return best;
         }
         widest = larger(widest, wide(w[k]));
         let rest = rest_at(widths, heights, k);
         k += 1;
-        best = try_first(kind, limit, g0, tall, widest, k, h, w, g, best, rest, work);
+        best = try_first(
+            kind,
+            limit,
+            g0,
+            Rows(tall),
+            Slices(widest),
+            k,
+            h,
+            w,
+            g,
+            best,
+            rest,
+            work,
+        );
     }
     best
 }
 
-fn gap_before(g: &[u16], i: usize) -> u32
+fn gap_before(g: &[u16], i: usize) -> Rows
     requires { ⌜ i ≤ length (now g) ⌝ }
-    ensures { λ r. ⌜ r ≡ gapBefore (now (g .entry)) i ⌝ }
+    ensures { λ r. ⌜ r .0 ≡ gapBefore (now (g .entry)) i ⌝ }
 {
     if i == 0 {
-        return 0;
+        return Rows(0);
     }
-    wide(g[i - 1])
+    Rows(wide(g[i - 1]))
 }
 
 // The best layout of what is left of a stack behind its first i components, where the lists hold the later ones.
 fn best_from(
     kind: Kind,
-    limit: u32,
+    limit: Rows,
     i: usize,
     h: &[u16],
     w: &[u16],
@@ -262,8 +299,9 @@ fn best_from(
     heights: &[u32],
     work: &mut [u32],
 ) -> Best
-    requires { ⌜ FromAsks kind limit i (now h) (now w) (now g) (now widths) (now heights) (now work) ⌝ }
-    ensures { λ r. ⌜ layoutIn r ≡ getD (layouts kind limit 0 (componentsIn (now (h .entry)) (now (w .entry)) (now (g .entry)))) i unmet ⌝ }
+    requires { ⌜ FromAsks kind (limit .0) i (now h) (now w) (now g) (now widths) (now heights) (now work) ⌝ }
+    ensures { λ r. ⌜ layoutIn r
+        ≡ getD (layouts kind (limit .0) 0 (componentsIn (now (h .entry)) (now (w .entry)) (now (g .entry)))) i unmet ⌝ }
 {
     let next = i + 1;
     first_group(
@@ -280,9 +318,9 @@ fn best_from(
 }
 
 // For a height: the best layouts of a stack and of what is left of it behind 1, 2, 3 and so on components.
-pub fn plan(
+fn plan(
     kind: Kind,
-    limit: u32,
+    limit: Rows,
     h: &[u16],
     w: &[u16],
     g: &[u16],
@@ -291,8 +329,10 @@ pub fn plan(
     ends: &mut [u32],
     work: &mut [u32],
 )
-    requires { ⌜ PlanAsks kind limit (now h) (now w) (now g) (now widths) (now heights) (now ends) (now work) ⌝ }
-    ensures { λ _. ⌜ Planned kind limit 0 (componentsIn (now (h .entry)) (now (w .entry)) (now (g .entry))) (now (widths .exit)) (now (heights .exit)) (now (ends .exit)) ⌝ }
+    requires { ⌜ PlanAsks kind (limit .0)
+        (now h) (now w) (now g) (now widths) (now heights) (now ends) (now work) ⌝ }
+    ensures { λ _. ⌜ Planned kind (limit .0) 0 (componentsIn (now (h .entry)) (now (w .entry)) (now (g .entry)))
+        (now (widths .exit)) (now (heights .exit)) (now (ends .exit)) ⌝ }
 {
     let mut i = h.len();
     widths[i] = 0;
@@ -301,27 +341,28 @@ pub fn plan(
     while 0 < i {
         i -= 1;
         let b = best_from(kind, limit, i, h, w, g, widths, heights, work);
-        widths[i] = b.width;
-        heights[i] = b.height;
+        widths[i] = b.width.0;
+        heights[i] = b.height.0;
         ends[i] = b.end;
     }
 }
 
-// The outline of the best layout for a height. A width of 4,000,000 means that there is none.
-pub fn outline_at(
+// The same in lists of its own. The content of the work buffer is free afterwards.
+pub fn layouts_for(
     kind: Kind,
-    limit: u32,
+    limit: Rows,
     h: &[u16],
     w: &[u16],
     g: &[u16],
     work: &mut [u32],
-) -> Outline
-    requires { ⌜ Plannable kind (now h) (now w) (now g) (now work) × (limit ≤ 2000000) ⌝ }
-    ensures { λ r. ⌜ r ≡ bestAt kind limit (componentsIn (now (h .entry)) (now (w .entry)) (now (g .entry))) ⌝ }
+) -> Layouts
+    requires { ⌜ Plannable kind (now h) (now w) (now g) (now work) × (limit .0 ≤ mostLimit) ⌝ }
+    ensures { λ r. ⌜ Planned kind (limit .0) 0 (componentsIn (now (h .entry)) (now (w .entry)) (now (g .entry)))
+        (r .widths) (r .heights) (r .ends) ⌝ }
 {
-    let mut widths = [0u32; 257];
-    let mut heights = [0u32; 257];
-    let mut ends = [0u32; 257];
+    let mut widths = [0u32; LISTED];
+    let mut heights = [0u32; LISTED];
+    let mut ends = [0u32; LISTED];
     plan(
         kind,
         limit,
@@ -333,8 +374,30 @@ pub fn outline_at(
         &mut ends,
         work,
     );
+    Layouts {
+        widths,
+        heights,
+        ends,
+    }
+}
+
+// The outline of the best layout for a height. A width of NONE means that there is none. The content of the work buffer is
+// free afterwards.
+pub fn outline_at(
+    kind: Kind,
+    limit: Rows,
+    h: &[u16],
+    w: &[u16],
+    g: &[u16],
+    work: &mut [u32],
+) -> Outline
+    requires { ⌜ Plannable kind (now h) (now w) (now g) (now work) × (limit .0 ≤ mostLimit) ⌝ }
+    ensures { λ r. ⌜ r
+        ≡ bestAt kind (limit .0) (componentsIn (now (h .entry)) (now (w .entry)) (now (g .entry))) ⌝ }
+{
+    let best = layouts_for(kind, limit, h, w, g, work);
     Outline {
-        width: Slices(widths[0]),
-        height: Rows(heights[0]),
+        width: Slices(best.widths[0]),
+        height: Rows(best.heights[0]),
     }
 }

@@ -3,15 +3,11 @@ use Prim.Native.Nat.{ℕ, _+_, _<_}
 use mathlib.Core.Path.{_≡_}
 use mathlib.Core.List.{List, _++_, map}
 use native.Mathlib.Omega.{arith}
-use lib.ListN.{length, getD, drop, set}
+use lib.ListN.{length, drop, set}
 use Rattle.terms.specs.declared.Component.{Component}
-use Rattle.stack.specs.File.{wordAt, componentAt, componentsOf}
+use Rattle.stack.specs.File.{Bytes, wordAt, componentAt, componentsOf}
 use Rattle.stack.specs.Inner.{columnInto}
 use Rattle.terms.proofs.Tabulate.{tabulate-set, tabulate-map}
-
--- Each number of the list is a byte.
-abbrev pub Bytes : List ℕ → Type 0
-Bytes file = (i : ℕ) → getD file i 0 < 256
 
 pub word-fits : (file : List ℕ) → Bytes file → (i : ℕ) → wordAt file i < 65536
 word-fits file b i = omega (arith, b i, b (i + 1))

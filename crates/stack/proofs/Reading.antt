@@ -8,10 +8,8 @@ use lib.Seq.{take-at}
 use lib.Dec.{ltb}
 use borrow.Author.Tests.{lt-ltb, le-ltb}
 use Rattle.terms.specs.declared.Component.{Component}
-use Rattle.terms.specs.declared.Counted.{Counted}
-use Rattle.terms.specs.declared.Counted.the-variants.{Components}
 use Rattle.terms.specs.declared.Kind.{Kind}
-use Rattle.terms.specs.Answer.{Answer, refusal, result, refuseIf, andThen, countAnswer}
+use Rattle.terms.specs.Answer.{Answer, refusal, result, refuseIf, andThen}
 use Rattle.terms.proofs.Lists.{heightsOf, widthsOf, gapsOf, length-map}
 use Rattle.stack.specs.File.{checkOf, componentsOf}
 use Rattle.terms.specs.Component.{countOf}
@@ -22,11 +20,11 @@ use Rattle.stack.proofs.Valid.{valid}
 use Rattle.stack.proofs.Columns.{column-map}
 
 module _ (kind : Kind) (file heights widths gaps : List ℕ) where
-  refused : (r : Counted) (k : ℕ) → countAnswer r ≡ refusal k → readOf kind file (length heights) (length widths) (length gaps) ≡ refusal k → Read kind file heights widths gaps r heights widths gaps
-  refused r k a e = record { answer = rw e a; heights-hold = rw e; widths-hold = rw e; gaps-hold = rw e }
+  refused : (k : ℕ) → readOf kind file (length heights) (length widths) (length gaps) ≡ refusal k → Read kind file heights widths gaps (refusal k) heights widths gaps
+  refused k e = record { answers = rw e; heights-hold = rw e; widths-hold = rw e; gaps-hold = rw e }
 
-  pub by-check : (r : Counted) (k : ℕ) → countAnswer r ≡ refusal k → countOf (checkOf kind file) ≡ refusal k → Read kind file heights widths gaps r heights widths gaps
-  by-check r k a e = refused r k a (rw (uncounted (checkOf kind file) k e))
+  pub by-check : (k : ℕ) → countOf (checkOf kind file) ≡ refusal k → Read kind file heights widths gaps (refusal k) heights widths gaps
+  by-check k e = refused k (rw (uncounted (checkOf kind file) k e))
 
   module _ {n : ℕ} (e : countOf (checkOf kind file) ≡ result n) where
     cs : List Component
@@ -40,14 +38,14 @@ module _ (kind : Kind) (file heights widths gaps : List ℕ) where
     unfolding cs
     long = counted (checkOf kind file) n e .2
 
-    pub short-heights : (r : Counted) → countAnswer r ≡ refusal 8 → length heights < n → Read kind file heights widths gaps r heights widths gaps
-    short-heights r a h = refused r 8 a (rw (is, long, lt-ltb _ _ h))
+    pub short-heights : length heights < n → Read kind file heights widths gaps (refusal 8) heights widths gaps
+    short-heights h = refused 8 (rw (is, long, lt-ltb _ _ h))
 
-    pub short-widths : (r : Counted) → countAnswer r ≡ refusal 8 → n ≤ length heights → length widths < n → Read kind file heights widths gaps r heights widths gaps
-    short-widths r a h w = refused r 8 a (rw (is, long, le-ltb _ _ h, lt-ltb _ _ w))
+    pub short-widths : n ≤ length heights → length widths < n → Read kind file heights widths gaps (refusal 8) heights widths gaps
+    short-widths h w = refused 8 (rw (is, long, le-ltb _ _ h, lt-ltb _ _ w))
 
-    pub short-gaps : (r : Counted) → countAnswer r ≡ refusal 8 → n ≤ length heights → n ≤ length widths → length gaps < n → Read kind file heights widths gaps r heights widths gaps
-    short-gaps r a h w g = refused r 8 a (rw (is, long, le-ltb _ _ h, le-ltb _ _ w, lt-ltb _ _ g))
+    pub short-gaps : n ≤ length heights → n ≤ length widths → length gaps < n → Read kind file heights widths gaps (refusal 8) heights widths gaps
+    short-gaps h w g = refused 8 (rw (is, long, le-ltb _ _ h, le-ltb _ _ w, lt-ltb _ _ g))
 
     pub fillable : n ≤ length heights → n ≤ length widths → n ≤ length gaps → Fillable file n heights widths gaps
     fillable h w g =
@@ -55,12 +53,12 @@ module _ (kind : Kind) (file heights widths gaps : List ℕ) where
         record { few = omega (arith, v .stack .few, most-256 kind, long); long = omega (arith, v .header .size, long); heights-fit = h; widths-fit = w; gaps-fit = g }
 
     pub all-read : {heights′ widths′ gaps′ : List ℕ} → n ≤ length heights → n ≤ length widths → n ≤ length gaps → Filled file n heights widths gaps heights′ widths′ gaps′
-        → Read kind file heights widths gaps (Components n) heights′ widths′ gaps′
+        → Read kind file heights widths gaps (result n) heights′ widths′ gaps′
     all-read h w g f =
         let c : componentsOf file n ≡ cs = rw long at (valid kind file cs is .components) in
         let a : readOf kind file (length heights) (length widths) (length gaps) ≡ result cs = rw (is, long, le-ltb _ _ h, le-ltb _ _ w, le-ltb _ _ g) in
         record {
-          answer = rw (a, long);
+          answers = rw (a, long);
           heights-hold = f .heights-hold ∙ column-map (λ c. c .height .0) file heights n ∙ rw (a, c, long);
           widths-hold = f .widths-hold ∙ column-map (λ c. c .width .0) file widths n ∙ rw (a, c, long);
           gaps-hold = f .gaps-hold ∙ column-map (λ c. c .gap .0) file gaps n ∙ rw (a, c, long);
@@ -88,13 +86,13 @@ module _ (kind : Kind) (file heights widths gaps : List ℕ) (h : length heights
       go (refusal k) m = refl
       go (result cs) m = rw (h, w, g, le-ltb 256 (length cs) (m cs refl))
 
-  module _ {r : Counted} {heights′ widths′ gaps′ : List ℕ} (d : Read kind file heights widths gaps r heights′ widths′ gaps′) where
-    pub read-refused : (k : ℕ) → countAnswer r ≡ refusal k → checkOf kind file ≡ refusal k
-    read-refused k e = uncounted (checkOf kind file) k (rw (← room) (sym (d .answer) ∙ e))
+  module _ {answer : Answer ℕ} {heights′ widths′ gaps′ : List ℕ} (d : Read kind file heights widths gaps answer heights′ widths′ gaps′) where
+    pub read-refused : (k : ℕ) → answer ≡ refusal k → checkOf kind file ≡ refusal k
+    read-refused k e = uncounted (checkOf kind file) k (rw (← room) (sym (d .answers) ∙ e))
 
-    pub read-held : (n : ℕ) → countAnswer r ≡ result n → Held kind file n heights′ widths′ gaps′
+    pub read-held : (n : ℕ) → answer ≡ result n → Held kind file n heights′ widths′ gaps′
     read-held n e =
-        let c = counted (checkOf kind file) n (rw (← room) (sym (d .answer) ∙ e)) in
+        let c = counted (checkOf kind file) n (rw (← room) (sym (d .answers) ∙ e)) in
         let a : readOf kind file (length heights) (length widths) (length gaps) ≡ result (c .0) = room ∙ c .1 in
         record {
           components = c .0;

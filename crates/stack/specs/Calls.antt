@@ -6,10 +6,9 @@ use mathlib.Core.Bool.{cond, _&&_}
 use lib.ListN.{length, take, drop}
 use lib.Dec.{leb, ltb}
 use Rattle.terms.specs.declared.Component.{Component}
-use Rattle.terms.specs.declared.Counted.{Counted}
 use Rattle.terms.specs.declared.Kind.{Kind}
 use Rattle.terms.specs.declared.Kind.the-variants.{Apart}
-use Rattle.terms.specs.Answer.{Answer, refusal, result, refuseIf, andThen, countAnswer}
+use Rattle.terms.specs.Answer.{Answer, refusal, result, refuseIf, andThen}
 use Rattle.terms.specs.Component.{countOf}
 use Rattle.stack.specs.File.{checkOf}
 
@@ -28,13 +27,14 @@ readInto (refusal k) part old = old
 readInto (result cs) part old = map part cs ++ drop (length cs) old
 
 -- Reading: its answer, and what the three lists hold afterwards.
-pub record Read (kind : Kind) (file heights widths gaps : List ℕ) (r : Counted) (heights′ widths′ gaps′ : List ℕ) : Type 0 where
-  pub answer : countAnswer r ≡ countOf (readOf kind file (length heights) (length widths) (length gaps))
+pub record Read (kind : Kind) (file heights widths gaps : List ℕ) (answer : Answer ℕ) (heights′ widths′ gaps′ : List ℕ) : Type 0 where
+  pub answers : answer ≡ countOf (readOf kind file (length heights) (length widths) (length gaps))
   pub heights-hold : heights′ ≡ readInto (readOf kind file (length heights) (length widths) (length gaps)) (λ c. c .height .0) heights
   pub widths-hold : widths′ ≡ readInto (readOf kind file (length heights) (length widths) (length gaps)) (λ c. c .width .0) widths
   pub gaps-hold : gaps′ ≡ readInto (readOf kind file (length heights) (length widths) (length gaps)) (λ c. c .gap .0) gaps
 
--- "A lookup by component number hands back the six bytes of one component as part of the file; for a number outside 1 to n, or a refused file, it is an empty part."
+-- "A lookup by component number hands back the six bytes of one component as part of the file; for a number outside 1 to n,
+-- or a refused file, it is an empty part."
 abbrev pub partOf : Answer (List Component) → List ℕ → ℕ → List ℕ
 partOf (refusal k) file number = []
 partOf (result cs) file number = cond (leb 1 number && leb number (length cs)) (take 6 (drop (7 + 6 * (number - 1)) file)) []

@@ -1,5 +1,5 @@
 -- The stack file: what its bytes say, and which refusal applies to it (document 01, "Components and stack files").
-use Prim.Native.Nat.{ℕ, _+_, _*_}
+use Prim.Native.Nat.{ℕ, _+_, _*_, _<_}
 use mathlib.Core.List.{List}
 use mathlib.Core.Bool.{Bool, not, _&&_}
 use lib.ListN.{length, getD}
@@ -8,6 +8,10 @@ use Rattle.terms.specs.declared.Component.{Component}
 use Rattle.terms.specs.declared.Kind.{Kind}
 use Rattle.terms.specs.Answer.{Answer, result, refuseIf, andThen}
 use Rattle.terms.specs.Component.{mostOf, stackOf, tabulate}
+
+-- A file is bytes: each of its numbers is one.
+abbrev pub Bytes : List ℕ → Type 0
+Bytes file = (i : ℕ) → getD file i 0 < 256
 
 -- "16 bits .. The low byte comes first": the number at byte i.
 abbrev pub wordAt : List ℕ → ℕ → ℕ
@@ -29,7 +33,8 @@ componentsOf file n = tabulate (componentAt file) n
 abbrev pub letters : List ℕ → Bool
 letters file = eqb (getD file 0 0) 83 && eqb (getD file 1 0) 84 && eqb (getD file 2 0) 75
 
--- Refusals 1 to 3 of a file: "under 7 bytes, or the letters are not STK"; "the version is not 1"; "the file is not 7+6n bytes". The result is n.
+-- Refusals 1 to 3 of a file: "under 7 bytes, or the letters are not STK"; "the version is not 1"; "the file is not 7+6n
+-- bytes". The result is n.
 unfoldable pub headerOf : List ℕ → Answer ℕ
 headerOf file =
     refuseIf (ltb (length file) 7) 1

@@ -3,6 +3,7 @@ use Prim.Native.Nat.{ℕ, _+_, _*_, _≤_}
 use mathlib.Core.Path.{_≡_}
 use mathlib.Core.List.{List, _++_}
 use lib.ListN.{length, drop}
+use Rattle.terms.specs.Numbers.{mostApart}
 use Rattle.terms.specs.declared.Component.{Component}
 use Rattle.terms.specs.Component.{tabulate}
 use Rattle.stack.specs.File.{componentAt}
@@ -12,7 +13,7 @@ abbrev pub columnInto : (Component → ℕ) → List ℕ → ℕ → List ℕ �
 columnInto part file n old = tabulate (λ i. part (componentAt file i)) n ++ drop n old
 
 pub record Fillable (file : List ℕ) (n : ℕ) (heights widths gaps : List ℕ) : Type 0 where
-  pub few : n ≤ 256
+  pub few : n ≤ mostApart
   pub long : 7 + 6 * n ≤ length file
   pub heights-fit : n ≤ length heights
   pub widths-fit : n ≤ length widths

@@ -2,6 +2,7 @@
 ghost use mathlib.Core.Path.{_≡_};
 ghost use Prim.Native.Nat.{_+_, _*_, _≤_, _<_};
 ghost use lib.ListN.{length};
+ghost use Rattle.terms.specs.Numbers.{mostApart};
 ghost use Rattle.terms.specs.Answer.{countAnswer};
 ghost use Rattle.terms.specs.Component.{mostOf, ruleOf, every, stackOf, countOf};
 ghost use Rattle.terms.specs.declared.Kind.the-variants.{Apart};
@@ -59,7 +60,7 @@ fn header(file: &[u8]) -> Counted
     if file.len() != 7 + 6 * n {
         return Counted::Refused(Refusal::WrongLength);
     }
-    Counted::Components(n)
+    Counted::Count(n)
 }
 
 fn component_at(file: &[u8], p: Position) -> Component
@@ -76,7 +77,7 @@ fn component_at(file: &[u8], p: Position) -> Component
 
 // Whether each of the file's n components keeps the rule.
 fn file_stands(file: &[u8], n: usize, rule: Rule) -> bool
-    requires { ⌜ (7 + 6 * n ≤ length (now file)) × (n ≤ 256) ⌝ }
+    requires { ⌜ (7 + 6 * n ≤ length (now file)) × (n ≤ mostApart) ⌝ }
     ensures { λ r. ⌜ r ≡ every (ruleOf rule) (componentsOf (now (file .entry)) n) ⌝ }
 {
     let mut p = Position::first();
@@ -108,7 +109,7 @@ fn check_components(file: &[u8], n: usize, kind: Kind) -> Counted
     if !file_stands(file, n, Rule::Gap) {
         return Counted::Refused(Refusal::BadGap);
     }
-    Counted::Components(n)
+    Counted::Count(n)
 }
 
 pub fn check(file: &[u8], kind: Kind) -> Counted
@@ -116,7 +117,7 @@ pub fn check(file: &[u8], kind: Kind) -> Counted
 {
     match header(file) {
         Counted::Refused(k) => Counted::Refused(k),
-        Counted::Components(n) => check_components(file, n, kind),
+        Counted::Count(n) => check_components(file, n, kind),
     }
 }
 
@@ -130,7 +131,9 @@ fn narrow(x: u32) -> u16
 // The file's n components into the three lists.
 fn fill(file: &[u8], n: usize, heights: &mut [u16], widths: &mut [u16], gaps: &mut [u16])
     requires { ⌜ Fillable (now file) n (now heights) (now widths) (now gaps) ⌝ }
-    ensures { λ _. ⌜ Filled (now (file .entry)) n (now (heights .entry)) (now (widths .entry)) (now (gaps .entry)) (now (heights .exit)) (now (widths .exit)) (now (gaps .exit)) ⌝ }
+    ensures { λ _. ⌜ Filled (now (file .entry)) n
+        (now (heights .entry)) (now (widths .entry)) (now (gaps .entry))
+        (now (heights .exit)) (now (widths .exit)) (now (gaps .exit)) ⌝ }
 {
     let mut p = Position::first();
     while p.before < n {
@@ -151,11 +154,13 @@ pub fn read_as(
     widths: &mut [u16],
     gaps: &mut [u16],
 ) -> Counted
-    ensures { λ r. ⌜ Read kind (now (file .entry)) (now (heights .entry)) (now (widths .entry)) (now (gaps .entry)) r (now (heights .exit)) (now (widths .exit)) (now (gaps .exit)) ⌝ }
+    ensures { λ r. ⌜ Read kind (now (file .entry))
+        (now (heights .entry)) (now (widths .entry)) (now (gaps .entry)) (countAnswer r)
+        (now (heights .exit)) (now (widths .exit)) (now (gaps .exit)) ⌝ }
 {
     match check(file, kind) {
         Counted::Refused(k) => Counted::Refused(k),
-        Counted::Components(n) => {
+        Counted::Count(n) => {
             if heights.len() < n {
                 return Counted::Refused(Refusal::ShortBuffer);
             }
@@ -166,13 +171,15 @@ pub fn read_as(
                 return Counted::Refused(Refusal::ShortBuffer);
             }
             fill(file, n, heights, widths, gaps);
-            Counted::Components(n)
+            Counted::Count(n)
         }
     }
 }
 
 pub fn read(file: &[u8], heights: &mut [u16], widths: &mut [u16], gaps: &mut [u16]) -> Counted
-    ensures { λ r. ⌜ Read Apart (now (file .entry)) (now (heights .entry)) (now (widths .entry)) (now (gaps .entry)) r (now (heights .exit)) (now (widths .exit)) (now (gaps .exit)) ⌝ }
+    ensures { λ r. ⌜ Read Apart (now (file .entry))
+        (now (heights .entry)) (now (widths .entry)) (now (gaps .entry)) (countAnswer r)
+        (now (heights .exit)) (now (widths .exit)) (now (gaps .exit)) ⌝ }
 {
     read_as(file, Kind::Apart, heights, widths, gaps)
 }
@@ -182,7 +189,7 @@ pub fn lookup<'a>(file: &'a [u8], number: usize) -> &'a [u8]
 {
     match check(file, Kind::Apart) {
         Counted::Refused(_) => &file[..0],
-        Counted::Components(n) => {
+        Counted::Count(n) => {
             if number < 1 {
                 return &file[..0];
             }

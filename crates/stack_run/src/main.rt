@@ -1,5 +1,4 @@
 // Runs the calls on stack files at their edges and writes what each answers, a line a case.
-use stack_write::Written;
 use terms::Counted;
 use terms::Kind;
 use terms::Refusal;
@@ -28,22 +27,10 @@ fn say_refused(k: Refusal) {
 
 fn say_counted(a: Counted) {
     match a {
-        Counted::Components(n) => {
+        Counted::Count(n) => {
             io::print_decimal(1, n as u64);
         }
         Counted::Refused(k) => {
-            say_refused(k);
-        }
-    }
-    say(b"\n");
-}
-
-fn say_written(a: Written) {
-    match a {
-        Written::Bytes(n) => {
-            io::print_decimal(1, n as u64);
-        }
-        Written::Refused(k) => {
             say_refused(k);
         }
     }
@@ -238,7 +225,7 @@ fn write_first(
     gaps: &[u16],
     space: &mut [u8],
     room: usize,
-) -> Written
+) -> Counted
     requires { ⌜ room ≤ length (now space) ⌝ }
 {
     stack_write::write(heights, widths, gaps, &mut space[..room])
@@ -253,7 +240,7 @@ fn write_case(label: &[u8], heights: &[u16], widths: &[u16], gaps: &[u16], room:
     say_space();
     let answer = write_first(heights, widths, gaps, &mut space, room);
     say_number(b"touched", touched(&space));
-    say_written(answer);
+    say_counted(answer);
 }
 
 fn write_cases() {
@@ -323,7 +310,7 @@ fn byte_differences(a: &[u8; 1543], b: &[u8; 1543]) -> usize {
 fn round_trip(h: [u16; 256], w: [u16; 256], g: [u16; 256]) {
     let mut file = [0u8; 1543];
     say(b"256 written ");
-    say_written(stack_write::write(&h, &w, &g, &mut file));
+    say_counted(stack_write::write(&h, &w, &g, &mut file));
     let mut h2 = [0u16; 256];
     let mut w2 = [0u16; 256];
     let mut g2 = [0u16; 256];
@@ -334,7 +321,7 @@ fn round_trip(h: [u16; 256], w: [u16; 256], g: [u16; 256]) {
     say_number(b"gaps", list_differences(&g, &g2));
     let mut again = [0u8; 1543];
     say(b"written again ");
-    say_written(stack_write::write(&h2, &w2, &g2, &mut again));
+    say_counted(stack_write::write(&h2, &w2, &g2, &mut again));
     say_number(b"differ: bytes", byte_differences(&file, &again));
     say(b"\n");
 }

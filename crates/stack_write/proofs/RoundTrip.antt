@@ -1,4 +1,4 @@
--- Writing what was read gives the same file; reading what was written gives the same components; a stack has one file.
+-- The round trip: the file that is written reads to the components, and no other file does.
 use Prim.Native.Nat.{ℕ, zero, suc, _+_, _*_, _<_, _≤_}
 use mathlib.Core.Path.{_≡_, refl, ap, sym, _∙_}
 use mathlib.Core.List.{List, [], _∷_, map}
@@ -12,17 +12,20 @@ use Rattle.terms.specs.declared.Component.{Component}
 use Rattle.terms.specs.declared.Kind.{Kind}
 use Rattle.terms.specs.declared.Kind.the-variants.{Apart}
 use Rattle.terms.specs.Answer.{result, refuseIf}
-use Rattle.stack_write.specs.Call.{writeOf}
-use Rattle.terms.specs.Component.{goodSize, goodGap, ends, every, mostOf, stackOf, tabulate, componentIn}
-use Rattle.stack.specs.File.{wordAt, componentFrom, componentAt, componentsOf, headerOf, checkOf}
+use Rattle.stack_write.specs.Call.{OneFile}
+use Rattle.terms.specs.Component.{goodSize, goodGap, ends, every, mostOf, stackOf, tabulate, componentIn, componentsIn}
+use Rattle.stack.specs.File.{Bytes, wordAt, componentFrom, componentAt, componentsOf, headerOf, checkOf}
 use Rattle.stack_write.specs.File.{low, high, bytesOf, fileOf}
 use Rattle.terms.proofs.Tabulate.{tabulate-length, tabulate-at, tabulate-front, tabulate-same, tabulate-map}
 use Rattle.terms.proofs.Answers.{stack-is, stack-of, most-256, passed, went-on}
 use Rattle.terms.proofs.Bools.{both}
 use Rattle.terms.proofs.Lists.{length-map, columns, sized}
 use Rattle.stack.proofs.Valid.{Header, valid}
-use Rattle.stack.proofs.Columns.{Bytes}
-use Rattle.stack_write.proofs.Writing.{bytes-length}
+
+pub bytes-length : (cs : List Component) → length (bytesOf cs) ≡ 6 * length cs
+unfolding bytesOf
+bytes-length [] = refl
+bytes-length (c ∷ cs) = omega (arith, bytes-length cs)
 
 -- The bytes behind the header, read by themselves.
 abbrev bodyAt : List ℕ → ℕ → Component
@@ -100,25 +103,21 @@ file-back (a ∷ b ∷ c ∷ d ∷ e ∷ x ∷ y ∷ body) cs v k h =
     let e7 : bytesOf cs ≡ body = ap bytesOf (sym k) ∙ ap bytesOf (behind l (length cs)) ∙ body-back body (length cs) (omega (arith, v .size)) (bytes-drop 7 l h) in
     cc
 
--- "Every valid stack file reads to its components", and they write to that file.
-pub write-of-read : (kind : Kind) (file : List ℕ) (cs : List Component) → Bytes file → checkOf kind file ≡ result cs → fileOf cs ≡ file
-write-of-read kind file cs h e = let v = valid kind file cs e in file-back file cs (v .header) (v .components) h
-
--- Two valid files that read to the same components are equal byte for byte.
-pub one-file : (kind : Kind) (file other : List ℕ) (cs : List Component) → Bytes file → Bytes other → checkOf kind file ≡ result cs → checkOf kind other ≡ result cs → file ≡ other
-one-file kind file other cs h g e f = sym (write-of-read kind file cs h e) ∙ write-of-read kind other cs g f
+-- A valid file is the one that its components write to.
+file-of-read : (kind : Kind) (file : List ℕ) (cs : List Component) → Bytes file → checkOf kind file ≡ result cs → file ≡ fileOf cs
+file-of-read kind file cs h e = let v = valid kind file cs e in sym (file-back file cs (v .header) (v .components) h)
 
 -- The components from a file that was written.
 word-of : (x : ℕ) → x < 65536 → low x + 256 * high x ≡ x
 word-of x h = omega arith
 
 -- Each number of the components fits 16 bits.
-pub record Words (c : Component) : Type 0 where
-  pub height-fits : c .height .0 < 65536
-  pub width-fits : c .width .0 < 65536
-  pub gap-fits : c .gap .0 < 65536
+record Words (c : Component) : Type 0 where
+  height-fits : c .height .0 < 65536
+  width-fits : c .width .0 < 65536
+  gap-fits : c .gap .0 < 65536
 
-abbrev pub AllWords : List Component → Type 0
+abbrev AllWords : List Component → Type 0
 AllWords [] = Unit {0}
 AllWords (c ∷ cs) = Words c × AllWords cs
 
@@ -145,7 +144,7 @@ words (c ∷ cs) s g =
     gap-small c true e = omega (arith, eqb-true (c .gap .0) 0 e)
     gap-small c false e = small (c .gap .0) e
 
-file-length : (cs : List Component) → length (fileOf cs) ≡ 7 + 6 * length cs
+pub file-length : (cs : List Component) → length (fileOf cs) ≡ 7 + 6 * length cs
 file-length cs = omega (arith, bytes-length cs)
 
 header-of : (cs : List Component) → length cs < 65536 → headerOf (fileOf cs) ≡ result (length cs)
@@ -155,35 +154,16 @@ header-of cs h =
     let w : wordAt (fileOf cs) 5 ≡ length cs = word-of (length cs) h in
     rw (le-ltb (length (fileOf cs)) 7 (omega arith), w, eq-eqb (length (fileOf cs)) (7 + 6 * length cs) n)
 
--- "every valid list of components writes to the one file that reads to it"
-pub read-of-write : (kind : Kind) (cs : List Component) → stackOf (mostOf kind) cs ≡ result cs → checkOf kind (fileOf cs) ≡ result cs
-read-of-write kind cs e =
-    let s = stack-is (mostOf kind) cs cs e .1 in
-    rw (header-of cs (omega (arith, s .few, most-256 kind)), behind (fileOf cs) (length cs), read-body cs (words cs (s .sizes) (s .gaps))) e
+read-of-write : (most : ℕ) (cs : List Component) → most ≤ 256 → stackOf most cs ≡ result cs → (kind : Kind) → checkOf kind (fileOf cs) ≡ stackOf (mostOf kind) cs
+read-of-write most cs h e kind =
+    let s = stack-is most cs cs e .1 in
+    rw (header-of cs (omega (arith, s .few)), behind (fileOf cs) (length cs), read-body cs (words cs (s .sizes) (s .gaps)))
 
--- The same of the calls: what is read is written again, and what was written is read again.
+-- A column of the components that lists hold is the list.
 tabulate-list : (l : List ℕ) → tabulate (λ i. getD l i 0) (length l) ≡ l
 tabulate-list l =
     ext-getD 0 (tabulate (λ i. getD l i 0) (length l)) l (tabulate-length (λ i. getD l i 0) (length l))
     (λ i h. tabulate-at (λ j. getD l j 0) (length l) i 0 (omega (arith, tabulate-length (λ j. getD l j 0) (length l))))
-
-pub write-what-was-read : (file : List ℕ) (cs : List Component) (room : ℕ) → Bytes file → checkOf Apart file ≡ result cs → length file ≤ room
-    → (writeOf (map (λ c. c .height .0) cs) (map (λ c. c .width .0) cs) (map (λ c. c .gap .0) cs) room ≡ result cs) × (fileOf cs ≡ file)
-write-what-was-read file cs room h e r =
-    let v = valid Apart file cs e in
-    let n = v .header .size in
-    let s : stackOf (mostOf Apart) cs ≡ result cs = stack-of (mostOf Apart) cs (v .stack) in (
-      rw (
-        columns cs,
-        length-map (λ c. c .width .0) cs,
-        length-map (λ c. c .gap .0) cs,
-        length-map (λ c. c .height .0) cs,
-        eq-eqb (length cs) (length cs) refl,
-        s,
-        le-ltb room (7 + 6 * length cs) (omega arith),
-      ),
-      write-of-read Apart file cs h e,
-    )
 
 column-of : (part : Component → ℕ) (g : ℕ → Component) (l : List ℕ) (cs : List Component) → ((i : ℕ) → part (g i) ≡ getD l i 0) → tabulate g (length l) ≡ cs → map part cs ≡ l
 column-of part g l cs e d =
@@ -191,20 +171,15 @@ column-of part g l cs e d =
     ∙ tabulate-same (λ i. part (g i)) (λ i. getD l i 0) (length l) (λ i h. e i)
     ∙ tabulate-list l
 
-pub read-what-was-written : (heights widths gaps : List ℕ) (room : ℕ) (cs : List Component) → writeOf heights widths gaps room ≡ result cs
-    → (checkOf Apart (fileOf cs) ≡ result cs) × (map (λ c. c .height .0) cs ≡ heights) × (map (λ c. c .width .0) cs ≡ widths) × (map (λ c. c .gap .0) cs ≡ gaps)
-read-what-was-written heights widths gaps room cs e =
-    let e1 = passed (not (eqb (length widths) (length heights))) 3 _ cs e in
-    let e2 = passed (not (eqb (length gaps) (length heights))) 3 _ cs (e1 .1) in
-    let g : ℕ → Component = componentIn heights widths gaps in
-    let e3 = went-on (stackOf (mostOf Apart) (tabulate g (length heights))) (λ ds. refuseIf (ltb room (7 + 6 * length ds)) 8 (result ds)) cs (e2 .1) in
-    let e4 = passed (ltb room (7 + 6 * length (e3 .0))) 8 (result (e3 .0)) cs (e3 .2) in
-    let s : stackOf (mostOf Apart) (tabulate g (length heights)) ≡ result cs = e3 .1 ∙ e4 .1 in
-    let d : tabulate g (length heights) ≡ cs = stack-is (mostOf Apart) (tabulate g (length heights)) cs s .0 in
-    let w : length widths ≡ length heights = eqb-true _ _ (not-false _ (e1 .0)) in
-    let p : length gaps ≡ length heights = eqb-true _ _ (not-false _ (e2 .0)) in (
-      read-of-write Apart cs (rw d at s),
-      column-of (λ c. c .height .0) g heights cs (λ i. refl) d,
-      column-of (λ c. c .width .0) g widths cs (λ i. refl) (rw w d),
-      column-of (λ c. c .gap .0) g gaps cs (λ i. refl) (rw p d),
-    )
+module _ (heights widths gaps : List ℕ) (widths-long : length widths ≡ length heights) (gaps-long : length gaps ≡ length heights) where
+  abbrev cs : List Component
+  cs = componentsIn heights widths gaps
+
+  pub one-file : stackOf (mostOf Apart) cs ≡ result cs → OneFile heights widths gaps cs (fileOf cs)
+  one-file e = record {
+    reads = read-of-write (mostOf Apart) cs (omega arith) e;
+    heights-back = column-of (λ c. c .height .0) (componentIn heights widths gaps) heights cs (λ i. refl) refl;
+    widths-back = column-of (λ c. c .width .0) (componentIn heights widths gaps) widths cs (λ i. refl) (rw widths-long refl);
+    gaps-back = column-of (λ c. c .gap .0) (componentIn heights widths gaps) gaps cs (λ i. refl) (rw gaps-long refl);
+    only = λ kind other b k. file-of-read kind other cs b k;
+  }

@@ -9,22 +9,16 @@ use lib.Seq.{take-at, drop-at, drop-drop}
 use borrow.Author.Tests.{lt-ltb, le-ltb, eq-eqb, ne-eqb}
 use borrow.Rule.Slice.PartMut.{putMid}
 use Rattle.terms.specs.declared.Component.{Component}
-use Rattle.stack_write.specs.declared.Written.{Written}
-use Rattle.stack_write.specs.declared.Written.the-variants.{Bytes}
 use Rattle.terms.specs.declared.Kind.the-variants.{Apart}
 use Rattle.terms.specs.Answer.{refusal, result}
 use Rattle.terms.specs.Component.{tabulate, stackOf, mostOf, countOf, componentIn, componentsIn}
 use Rattle.stack_write.specs.File.{low, high, bytesOf, fileOf}
-use Rattle.stack_write.specs.Call.{writtenAnswer, writeOf, Wrote}
+use Rattle.stack_write.specs.Call.{writeOf, Wrote}
 use Rattle.stack_write.specs.Inner.{Lists}
 use Rattle.terms.proofs.Tabulate.{tabulate-length}
 use Rattle.terms.proofs.Parts.{from, back}
 use Rattle.terms.proofs.Answers.{counted, uncounted, stack-is}
-
-pub bytes-length : (cs : List Component) → length (bytesOf cs) ≡ 6 * length cs
-unfolding bytesOf
-bytes-length [] = refl
-bytes-length (c ∷ cs) = omega (arith, bytes-length cs)
+use Rattle.stack_write.proofs.RoundTrip.{bytes-length, file-length, one-file}
 
 bytes-append : (cs ds : List Component) → bytesOf (cs ++ ds) ≡ bytesOf cs ++ bytesOf ds
 unfolding bytesOf
@@ -63,18 +57,18 @@ whole cs old p last n m d e l =
     back 7 p last d ∙ ap (λ (z : List ℕ). take 7 p ++ z) (rw (from 7 p) at l) ∙ rw (e, drop-drop (6 * n) 7 old, m)
 
 module _ (heights widths gaps out : List ℕ) where
-  refused : (r : Written) (k : ℕ) → writtenAnswer r ≡ refusal k → writeOf heights widths gaps (length out) ≡ refusal k → Wrote heights widths gaps out r out
-  refused r k a e = record { answer = rw e a; holds = rw e }
+  refused : (k : ℕ) → writeOf heights widths gaps (length out) ≡ refusal k → Wrote heights widths gaps out (refusal k) out
+  refused k e = record { answers = rw e; holds = rw e; reads-back = rw e tt }
 
-  pub other-widths : (r : Written) → writtenAnswer r ≡ refusal 3 → (length widths ≡ length heights → ⊥) → Wrote heights widths gaps out r out
-  other-widths r a h = refused r 3 a (rw (ne-eqb _ _ h))
+  pub other-widths : (length widths ≡ length heights → ⊥) → Wrote heights widths gaps out (refusal 3) out
+  other-widths h = refused 3 (rw (ne-eqb _ _ h))
 
-  pub other-gaps : (r : Written) → writtenAnswer r ≡ refusal 3 → length widths ≡ length heights → (length gaps ≡ length heights → ⊥) → Wrote heights widths gaps out r out
-  other-gaps r a h g = refused r 3 a (rw (eq-eqb (length widths) (length heights) h, ne-eqb (length gaps) (length heights) g))
+  pub other-gaps : length widths ≡ length heights → (length gaps ≡ length heights → ⊥) → Wrote heights widths gaps out (refusal 3) out
+  other-gaps h g = refused 3 (rw (eq-eqb (length widths) (length heights) h, ne-eqb (length gaps) (length heights) g))
 
   module _ (s : Lists heights widths gaps) where
-    pub by-check : (r : Written) (k : ℕ) → writtenAnswer r ≡ refusal k → countOf (stackOf (mostOf Apart) (componentsIn heights widths gaps)) ≡ refusal k → Wrote heights widths gaps out r out
-    by-check r k a e = refused r k a (rw (eq-eqb _ _ (s .widths-long), eq-eqb _ _ (s .gaps-long), uncounted (stackOf (mostOf Apart) (componentsIn heights widths gaps)) k e))
+    pub by-check : (k : ℕ) → countOf (stackOf (mostOf Apart) (componentsIn heights widths gaps)) ≡ refusal k → Wrote heights widths gaps out (refusal k) out
+    by-check k e = refused k (rw (eq-eqb _ _ (s .widths-long), eq-eqb _ _ (s .gaps-long), uncounted (stackOf (mostOf Apart) (componentsIn heights widths gaps)) k e))
 
     module _ {n : ℕ} (e : countOf (stackOf (mostOf Apart) (componentsIn heights widths gaps)) ≡ result n) where
       is : stackOf (mostOf Apart) (componentsIn heights widths gaps) ≡ result (componentsIn heights widths gaps)
@@ -93,14 +87,21 @@ module _ (heights widths gaps out : List ℕ) where
       counts : length (componentsIn heights widths gaps) ≡ n
       counts = tabulate-length (componentIn heights widths gaps) (length heights) ∙ long
 
-      pub short : (r : Written) → writtenAnswer r ≡ refusal 8 → length out < 7 + 6 * n → Wrote heights widths gaps out r out
-      short r a h = refused r 8 a (rw (eq-eqb _ _ (s .widths-long), eq-eqb _ _ (s .gaps-long), is, counts, lt-ltb _ _ h))
+      pub short : length out < 7 + 6 * n → Wrote heights widths gaps out (refusal 8) out
+      short h = refused 8 (rw (eq-eqb _ _ (s .widths-long), eq-eqb _ _ (s .gaps-long), is, counts, lt-ltb _ _ h))
 
       pub wrote : (p last : List ℕ) → 7 + 6 * n ≤ length out → length p ≡ length out
           → p ≡ 83 ∷ 84 ∷ 75 ∷ 1 ∷ 0 ∷ low n ∷ high n ∷ drop 7 out
           → last ≡ bytesOf (componentsIn heights widths gaps) ++ drop (6 * length heights) (take (length p - 7) (drop 7 p))
-          → Wrote heights widths gaps out (Bytes (7 + 6 * n)) (putMid 7 (length p - 7) p last)
+          → Wrote heights widths gaps out (result (7 + 6 * n)) (putMid 7 (length p - 7) p last)
       wrote p last h m k l =
           let a : writeOf heights widths gaps (length out) ≡ result (componentsIn heights widths gaps) = rw (eq-eqb _ _ (s .widths-long), eq-eqb _ _ (s .gaps-long), is, counts, le-ltb _ _ h) in
           let f : putMid 7 (length p - 7) p last ≡ fileOf (componentsIn heights widths gaps) ++ drop (7 + 6 * n) out = whole (componentsIn heights widths gaps) out p last n counts (omega arith) k (rw (← long) l) in
-          record { answer = rw (a, counts); holds = rw a (f ∙ ap (λ (j : ℕ). fileOf (componentsIn heights widths gaps) ++ drop (7 + 6 * j) out) (sym counts)) }
+          let g : putMid 7 (length p - 7) p last ≡ fileOf (componentsIn heights widths gaps) ++ drop (7 + 6 * length (componentsIn heights widths gaps)) out = f ∙ rw counts in
+          record {
+            answers = rw (a, counts);
+            holds = rw a g;
+            reads-back =
+                rw (a, g, take-at (fileOf (componentsIn heights widths gaps)) (drop (7 + 6 * length (componentsIn heights widths gaps)) out) (7 + 6 * length (componentsIn heights widths gaps)) (file-length (componentsIn heights widths gaps)))
+                (one-file heights widths gaps (s .widths-long) (s .gaps-long) is);
+          }

@@ -3,12 +3,13 @@ ghost use mathlib.Core.Path.{_≡_};
 ghost use mathlib.Core.List.{[], _∷_, _++_};
 ghost use Prim.Native.Nat.{_+_, _*_, _≤_, _<_};
 ghost use lib.ListN.{length, drop};
+ghost use Rattle.terms.specs.Numbers.{mostApart};
 ghost use Rattle.terms.specs.Answer.{countAnswer};
 ghost use Rattle.terms.specs.Component.{mostOf, ruleOf, every, stackOf, countOf, componentIn, componentsIn};
 ghost use Rattle.terms.specs.declared.Kind.the-variants.{Apart};
 ghost use Rattle.stack_write.specs.File.{low, high, bytesOf};
 ghost use Rattle.stack_write.specs.Call.{Wrote};
-ghost use Rattle.stack_write.specs.Inner.{InLists, Lists, Writable};
+ghost use Rattle.stack_write.specs.Inner.{InLists, Lists, Writable, bodyInto};
 use terms::Component;
 use terms::Counted;
 use terms::Kind;
@@ -17,11 +18,6 @@ use terms::Refusal;
 use terms::Rows;
 use terms::Rule;
 use terms::Slices;
-
-pub enum Written {
-    Bytes(usize),
-    Refused(Refusal),
-}
 
 fn wide(x: u16) -> u32
     ensures { λ r. ⌜ r ≡ x ⌝ }
@@ -43,8 +39,9 @@ fn component_in(heights: &[u16], widths: &[u16], gaps: &[u16], p: Position) -> C
 
 // Whether each component of the lists keeps the rule.
 fn lists_stand(heights: &[u16], widths: &[u16], gaps: &[u16], rule: Rule) -> bool
-    requires { ⌜ Lists (now heights) (now widths) (now gaps) × (length (now heights) ≤ 256) ⌝ }
-    ensures { λ r. ⌜ r ≡ every (ruleOf rule) (componentsIn (now (heights .entry)) (now (widths .entry)) (now (gaps .entry))) ⌝ }
+    requires { ⌜ Lists (now heights) (now widths) (now gaps) × (length (now heights) ≤ mostApart) ⌝ }
+    ensures { λ r. ⌜ r
+        ≡ every (ruleOf rule) (componentsIn (now (heights .entry)) (now (widths .entry)) (now (gaps .entry))) ⌝ }
 {
     let n = heights.len();
     let mut p = Position::first();
@@ -62,7 +59,8 @@ fn lists_stand(heights: &[u16], widths: &[u16], gaps: &[u16], rule: Rule) -> boo
 // Refusals 4 to 6 of the lists.
 fn check_lists(heights: &[u16], widths: &[u16], gaps: &[u16]) -> Counted
     requires { ⌜ Lists (now heights) (now widths) (now gaps) ⌝ }
-    ensures { λ r. ⌜ countAnswer r ≡ countOf (stackOf (mostOf Apart) (componentsIn (now (heights .entry)) (now (widths .entry)) (now (gaps .entry)))) ⌝ }
+    ensures { λ r. ⌜ countAnswer r
+        ≡ countOf (stackOf (mostOf Apart) (componentsIn (now (heights .entry)) (now (widths .entry)) (now (gaps .entry)))) ⌝ }
 {
     let n = heights.len();
     if n == 0 {
@@ -77,7 +75,7 @@ fn check_lists(heights: &[u16], widths: &[u16], gaps: &[u16]) -> Counted
     if !lists_stand(heights, widths, gaps, Rule::Gap) {
         return Counted::Refused(Refusal::BadGap);
     }
-    Counted::Components(n)
+    Counted::Count(n)
 }
 
 fn low_byte(x: u32) -> u8
@@ -120,7 +118,7 @@ fn put_component(out: &mut [u8], c: Component)
 // The components' bytes, six for each.
 fn put_components(heights: &[u16], widths: &[u16], gaps: &[u16], out: &mut [u8])
     requires { ⌜ Writable (now heights) (now widths) (now gaps) (now out) ⌝ }
-    ensures { λ _. ⌜ now (out .exit) ≡ bytesOf (componentsIn (now (heights .entry)) (now (widths .entry)) (now (gaps .entry))) ++ drop (6 * length (now (heights .entry))) (now (out .entry)) ⌝ }
+    ensures { λ _. ⌜ now (out .exit) ≡ bodyInto (now (heights .entry)) (now (widths .entry)) (now (gaps .entry)) (now (out .entry)) ⌝ }
 {
     let n = heights.len();
     let mut p = Position::first();
@@ -132,24 +130,25 @@ fn put_components(heights: &[u16], widths: &[u16], gaps: &[u16], out: &mut [u8])
     }
 }
 
-pub fn write(heights: &[u16], widths: &[u16], gaps: &[u16], out: &mut [u8]) -> Written
-    ensures { λ r. ⌜ Wrote (now (heights .entry)) (now (widths .entry)) (now (gaps .entry)) (now (out .entry)) r (now (out .exit)) ⌝ }
+pub fn write(heights: &[u16], widths: &[u16], gaps: &[u16], out: &mut [u8]) -> Counted
+    ensures { λ r. ⌜ Wrote (now (heights .entry)) (now (widths .entry)) (now (gaps .entry))
+        (now (out .entry)) (countAnswer r) (now (out .exit)) ⌝ }
 {
     if widths.len() != heights.len() {
-        return Written::Refused(Refusal::WrongLength);
+        return Counted::Refused(Refusal::WrongLength);
     }
     if gaps.len() != heights.len() {
-        return Written::Refused(Refusal::WrongLength);
+        return Counted::Refused(Refusal::WrongLength);
     }
     match check_lists(heights, widths, gaps) {
-        Counted::Refused(k) => Written::Refused(k),
-        Counted::Components(n) => {
+        Counted::Refused(k) => Counted::Refused(k),
+        Counted::Count(n) => {
             if out.len() < 7 + 6 * n {
-                return Written::Refused(Refusal::ShortBuffer);
+                return Counted::Refused(Refusal::ShortBuffer);
             }
             put_header(out, n as u32);
             put_components(heights, widths, gaps, &mut out[7..]);
-            Written::Bytes(7 + 6 * n)
+            Counted::Count(7 + 6 * n)
         }
     }
 }

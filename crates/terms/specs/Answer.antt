@@ -32,7 +32,7 @@ numberOf Refusal.ShortBuffer = 8
 numberOf Refusal.Unmeetable = 9
 numberOf Refusal.BrokenFolding = 10
 
--- The answer of a check or a reading: the number n of components.
+-- The answer of a call that counts: the number of components, of the file's bytes or of pairs.
 abbrev pub countAnswer : Counted → Answer ℕ
-countAnswer (Counted.Components n) = result n
+countAnswer (Counted.Count n) = result n
 countAnswer (Counted.Refused k) = refusal (numberOf k)

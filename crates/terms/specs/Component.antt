@@ -1,5 +1,5 @@
 -- Components, and which lists of them are a stack (document 01, "Components and stack files").
-use Prim.Native.Nat.{ℕ, zero, suc}
+use Prim.Native.Nat.{ℕ, zero, suc, _+_}
 use mathlib.Core.List.{List, [], _∷_, _++_}
 use mathlib.Core.Bool.{Bool, true, false, not, _&&_}
 use lib.ListN.{length, getD}
@@ -8,11 +8,12 @@ use Rattle.terms.specs.declared.Component.{Component}
 use Rattle.terms.specs.declared.Rule.{Rule}
 use Rattle.terms.specs.declared.Kind.{Kind}
 use Rattle.terms.specs.declared.Kind.the-variants.{Apart, Nested}
+use Rattle.terms.specs.Numbers.{mostSize, mostApart, mostNested}
 use Rattle.terms.specs.Answer.{Answer, result, refuseIf, andThen}
 
 -- "Height and width are 1 to 4,000".
 abbrev pub inSize : ℕ → Bool
-inSize x = leb 1 x && leb x 4000
+inSize x = leb 1 x && leb x mostSize
 
 -- Refusal 5, "a height or width outside its range", does not apply to the component.
 abbrev pub goodSize : Component → Bool → Bool
@@ -21,7 +22,7 @@ goodSize c last = inSize (c .height .0) && inSize (c .width .0)
 -- Refusal 6, "a gap over 4,000, or the last gap not 0", does not apply to the component.
 abbrev pub goodGap : Component → Bool → Bool
 goodGap c true = eqb (c .gap .0) 0
-goodGap c false = leb (c .gap .0) 4000
+goodGap c false = leb (c .gap .0) mostSize
 
 -- The two, by their names in the code.
 abbrev pub ruleOf : Rule → Component → Bool → Bool
@@ -38,10 +39,10 @@ unfoldable pub every : (Component → Bool → Bool) → List Component → Bool
 every rule [] = true
 every rule (c ∷ cs) = rule c (ends cs) && every rule cs
 
--- "n is 0 or over 256; in a nested call over 64": the most components that a call takes. A call without a kind takes 256.
+-- The most components that a call of the kind takes. A call without a kind takes as many as an apart one.
 abbrev pub mostOf : Kind → ℕ
-mostOf Apart = 256
-mostOf Nested = 64
+mostOf Apart = mostApart
+mostOf Nested = mostNested
 
 -- Refusals 4 to 6 of a list of components, in order; all heights and widths before any gap.
 unfoldable pub stackOf : ℕ → List Component → Answer (List Component)
@@ -68,3 +69,8 @@ componentsIn heights widths gaps = tabulate (componentIn heights widths gaps) (l
 -- The check and the reading of a stack give the number of its components.
 abbrev pub countOf : Answer (List Component) → Answer ℕ
 countOf a = andThen a (λ cs. result (length cs))
+
+-- The widths of all components together.
+unfoldable pub widthSum : List Component → ℕ
+widthSum [] = 0
+widthSum (c ∷ cs) = c .width .0 + widthSum cs

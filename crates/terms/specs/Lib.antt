@@ -1,3 +1,4 @@
+pub mod Numbers
 pub mod Answer
 pub mod Component
 pub mod Position

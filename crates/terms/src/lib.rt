@@ -5,6 +5,20 @@ ghost use Rattle.terms.specs.Answer.{numberOf};
 ghost use Rattle.terms.specs.Component.{inSize, mostOf, goodSize, goodGap, ruleOf};
 ghost use Rattle.terms.specs.Position.{nextOf};
 
+// The most that a height, a width or a gap may be.
+pub const MOST_SIZE: u32 = 4000;
+
+// The most components that a stack may have, apart and nested.
+pub const MOST_APART: usize = 256;
+
+pub const MOST_NESTED: usize = 64;
+
+// The greatest limit: no folding is higher or wider.
+pub const MOST_LIMIT: u32 = 2000000;
+
+// The least length of a work buffer.
+pub const LEAST_WORK: usize = 8192;
+
 // Heights and gaps count rows.
 pub struct Rows(pub u32);
 
@@ -37,8 +51,9 @@ pub enum Refusal {
     BrokenFolding,
 }
 
+// What a call answers that counts components, bytes or pairs.
 pub enum Counted {
-    Components(usize),
+    Count(usize),
     Refused(Refusal),
 }
 
@@ -76,7 +91,7 @@ impl Position {
     pub fn next(self) -> Position
         ensures { λ r. ⌜ r .before ≡ nextOf (self .before) ⌝ }
     {
-        if self.before < 256 {
+        if self.before < MOST_APART {
             return Position {
                 before: self.before + 1,
             };
@@ -90,8 +105,8 @@ pub fn most(kind: Kind) -> usize
     ensures { λ r. ⌜ r ≡ mostOf kind ⌝ }
 {
     match kind {
-        Kind::Apart => 256,
-        Kind::Nested => 64,
+        Kind::Apart => MOST_APART,
+        Kind::Nested => MOST_NESTED,
     }
 }
 
@@ -99,7 +114,7 @@ pub fn in_size(x: u32) -> bool
     ensures { λ r. ⌜ r ≡ inSize x ⌝ }
 {
     if 1 <= x {
-        return x <= 4000;
+        return x <= MOST_SIZE;
     }
     false
 }
@@ -125,7 +140,7 @@ pub fn gap_stands(c: Component, last: bool) -> bool
     if last {
         return c.gap.0 == 0;
     }
-    c.gap.0 <= 4000
+    c.gap.0 <= MOST_SIZE
 }
 
 pub fn stands(rule: Rule, c: Component, last: bool) -> bool

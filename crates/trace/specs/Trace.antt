@@ -3,6 +3,8 @@ use Prim.Native.Nat.{ℕ, _+_, _*_, _≤_, _<_}
 use mathlib.Core.Path.{_≡_}
 use mathlib.Core.List.{List, _++_}
 use lib.ListN.{length, drop}
+use Rattle.numbers.specs.Table.{cells}
+use Rattle.terms.specs.Numbers.{mostSize, mostApart, mostNested}
 use Rattle.terms.specs.declared.Component.{Component}
 use Rattle.terms.specs.declared.Kind.{Kind}
 use Rattle.terms.specs.Component.{componentsIn}
@@ -18,13 +20,13 @@ use Rattle.layout.proofs.Folds.{Folds}
 pub record GroupAsks (kind : Kind) (g0 : ℕ) (hs ws gs work : List ℕ) : Type 0 where
   pub lists : StackLists kind hs ws gs
   pub some : 0 < length hs
-  pub before : g0 ≤ 4000
-  pub work-room : 4225 ≤ length work
+  pub before : g0 ≤ mostSize
+  pub work-room : cells ≤ length work
 
 -- Its fold, and the table where it has one.
 pub record FoldFound (kind : Kind) (g0 cap : ℕ) (hs ws gs work : List ℕ) (p : ℕ) : Type 0 where
   pub point : FoldPoint kind g0 (componentsIn hs ws gs) cap p
-  pub table : p < length hs → (length hs ≤ 64) × Filled hs ws work cap
+  pub table : p < length hs → (length hs ≤ mostNested) × Filled hs ws work cap
 
 pub record GroupPut (kind : Kind) (group g0 cap : ℕ) (hs ws gs old new : List ℕ) : Type 0 where
   pub at : ℕ
@@ -36,9 +38,9 @@ pub record FirstAsks (kind : Kind) (g0 k : ℕ) (hs ws gs out work : List ℕ) :
   pub lists : StackLists kind hs ws gs
   pub some : 0 < k
   pub within : k ≤ length hs
-  pub before : g0 ≤ 4000
+  pub before : g0 ≤ mostSize
   pub room : 3 * length hs ≤ length out
-  pub work-room : 4225 ≤ length work
+  pub work-room : cells ≤ length work
 
 -- The lists hold the best layouts for the limit, and that of the whole keeps it.
 pub record Met (kind : Kind) (limit g0 : ℕ) (cs : List Component) (widths heights ends : List ℕ) : Type 0 where
@@ -48,12 +50,12 @@ pub record Met (kind : Kind) (limit g0 : ℕ) (cs : List Component) (widths heig
 -- The limit and the heights were needed to find the layouts; the trace does not look at them.
 pub record TraceAsks (kind : Kind) (group g0 : ℕ) (hs ws gs widths ends out work : List ℕ) : Type 0 where
   pub lists : StackLists kind hs ws gs
-  pub before : g0 ≤ 4000
-  pub number : group + length hs ≤ 256
+  pub before : g0 ≤ mostSize
+  pub number : group + length hs ≤ mostApart
   pub widths-long : length hs < length widths
   pub ends-long : length hs < length ends
   pub room : 3 * length hs ≤ length out
-  pub work-room : 4225 ≤ length work
+  pub work-room : cells ≤ length work
   pub limit : ℕ
   pub heights : List ℕ
   pub plan : Met kind limit g0 (componentsIn hs ws gs) widths heights ends

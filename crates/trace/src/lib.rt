@@ -6,19 +6,22 @@ ghost use Rattle.terms.specs.Component.{componentsIn};
 ghost use Rattle.trace.specs.Trace.{GroupAsks, FoldFound, GroupPut, FirstAsks, TraceAsks, Traced};
 use numbers::get;
 use terms::Kind;
+use terms::Rows;
+use terms::Slices;
 
 // Behind how many components the group has its fold: behind all of them where it has none.
 fn fold_at(
     kind: Kind,
-    g0: u32,
-    cap: u32,
+    g0: Rows,
+    cap: Slices,
     h: &[u16],
     w: &[u16],
     g: &[u16],
     work: &mut [u32],
 ) -> usize
-    requires { ⌜ GroupAsks kind g0 (now h) (now w) (now g) (now work) ⌝ }
-    ensures { λ r. ⌜ FoldFound kind g0 cap (now (h .entry)) (now (w .entry)) (now (g .entry)) (now (work .exit)) r ⌝ }
+    requires { ⌜ GroupAsks kind (g0 .0) (now h) (now w) (now g) (now work) ⌝ }
+    ensures { λ r. ⌜ FoldFound kind (g0 .0) (cap .0)
+        (now (h .entry)) (now (w .entry)) (now (g .entry)) (now (work .exit)) r ⌝ }
 {
     match kind {
         Kind::Apart => h.len(),
@@ -32,16 +35,17 @@ fn fold_at(
 fn put_group(
     kind: Kind,
     group: u32,
-    g0: u32,
-    cap: u32,
+    g0: Rows,
+    cap: Slices,
     h: &[u16],
     w: &[u16],
     g: &[u16],
     out: &mut [u32],
     work: &mut [u32],
 )
-    requires { ⌜ GroupAsks kind g0 (now h) (now w) (now g) (now work) × (3 * length (now h) ≤ length (now out)) ⌝ }
-    ensures { λ _. ⌜ GroupPut kind group g0 cap (now (h .entry)) (now (w .entry)) (now (g .entry)) (now (out .entry)) (now (out .exit)) ⌝ }
+    requires { ⌜ GroupAsks kind (g0 .0) (now h) (now w) (now g) (now work) × (3 * length (now h) ≤ length (now out)) ⌝ }
+    ensures { λ _. ⌜ GroupPut kind group (g0 .0) (cap .0)
+        (now (h .entry)) (now (w .entry)) (now (g .entry)) (now (out .entry)) (now (out .exit)) ⌝ }
 {
     let p = fold_at(kind, g0, cap, h, w, g, work);
     group_trace::write_group(h, w, work, out, group, p, cap);
@@ -56,26 +60,27 @@ fn first_end(n: usize, ends: &[u32]) -> usize
 }
 
 // What the first k components may take of the width.
-fn cap_of(widths: &[u32], k: usize) -> u32
-    requires { ⌜ (0 < length (now widths)) × (k < length (now widths)) × (getD (now widths) k 0 ≤ getD (now widths) 0 0) ⌝ }
-    ensures { λ r. ⌜ r ≡ getD (now (widths .entry)) 0 0 - getD (now (widths .entry)) k 0 ⌝ }
+fn cap_of(widths: &[u32], k: usize) -> Slices
+    requires { ⌜ (0 < length (now widths)) × (k < length (now widths))
+        × (getD (now widths) k 0 ≤ getD (now widths) 0 0) ⌝ }
+    ensures { λ r. ⌜ r .0 ≡ getD (now (widths .entry)) 0 0 - getD (now (widths .entry)) k 0 ⌝ }
 {
-    widths[0] - widths[k]
+    Slices(widths[0] - widths[k])
 }
 
-fn last_gap(g: &[u16], k: usize) -> u32
+fn last_gap(g: &[u16], k: usize) -> Rows
     requires { ⌜ (0 < k) × (k ≤ length (now g)) ⌝ }
-    ensures { λ r. ⌜ r ≡ getD (now (g .entry)) (k - 1) 0 ⌝ }
+    ensures { λ r. ⌜ r .0 ≡ getD (now (g .entry)) (k - 1) 0 ⌝ }
 {
-    get(g, k - 1)
+    Rows(get(g, k - 1))
 }
 
 // Places the first k components.
 fn put_first(
     kind: Kind,
     group: u32,
-    g0: u32,
-    cap: u32,
+    g0: Rows,
+    cap: Slices,
     k: usize,
     h: &[u16],
     w: &[u16],
@@ -83,17 +88,20 @@ fn put_first(
     out: &mut [u32],
     work: &mut [u32],
 )
-    requires { ⌜ FirstAsks kind g0 k (now h) (now w) (now g) (now out) (now work) ⌝ }
-    ensures { λ _. ⌜ GroupPut kind group g0 cap (take k (now (h .entry))) (take k (now (w .entry))) (take k (now (g .entry))) (now (out .entry)) (now (out .exit)) ⌝ }
+    requires { ⌜ FirstAsks kind (g0 .0) k (now h) (now w) (now g) (now out) (now work) ⌝ }
+    ensures { λ _. ⌜ GroupPut kind group (g0 .0) (cap .0)
+        (take k (now (h .entry))) (take k (now (w .entry))) (take k (now (g .entry)))
+        (now (out .entry)) (now (out .exit)) ⌝ }
 {
     put_group(kind, group, g0, cap, &h[..k], &w[..k], &g[..k], out, work);
 }
 
-// The group of the first components, and behind it the groups of the rest, in what is left of the placements.
+// The group of the first components, and behind it the groups of the rest, in what is left of the placements. The content
+// of the work buffer is free afterwards.
 pub fn trace(
     kind: Kind,
     group: u32,
-    g0: u32,
+    g0: Rows,
     h: &[u16],
     w: &[u16],
     g: &[u16],
@@ -102,8 +110,10 @@ pub fn trace(
     out: &mut [u32],
     work: &mut [u32],
 )
-    requires { ⌜ TraceAsks kind group g0 (now h) (now w) (now g) (now widths) (now ends) (now out) (now work) ⌝ }
-    ensures { λ _. ⌜ Traced kind group g0 (componentsIn (now (h .entry)) (now (w .entry)) (now (g .entry))) (now (widths .entry)) (now (ends .entry)) (now (out .entry)) (now (out .exit)) ⌝ }
+    requires { ⌜ TraceAsks kind group (g0 .0)
+        (now h) (now w) (now g) (now widths) (now ends) (now out) (now work) ⌝ }
+    ensures { λ _. ⌜ Traced kind group (g0 .0) (componentsIn (now (h .entry)) (now (w .entry)) (now (g .entry)))
+        (now (widths .entry)) (now (ends .entry)) (now (out .entry)) (now (out .exit)) ⌝ }
 {
     if 0 < h.len() {
         let k = first_end(h.len(), ends);

@@ -1,8 +1,7 @@
 // Runs every line of a file of small stacks and their outline tables through the table and both folds, at each outline and between outlines, and counts.
 // A line: components as height/width/gap, the apart table, the nested table, apart by bars.
-use fold_table::Listed;
 use folding::Measured;
-use stack_write::Written;
+use terms::Counted;
 use terms::Kind;
 use terms::Rows;
 use terms::Slices;
@@ -151,27 +150,27 @@ fn is_unmeetable(a: Measured) -> bool {
 fn to_height(file: &[u8], kind: Kind, limit: u32, width: u32, height: u32) -> bool {
     let mut placements = [4000000000u32; 36];
     let mut work = [7u32; 8192];
-    let a = fold::fold_to_height(file, kind, Rows(limit), &mut placements, &mut work);
+    let a = fold::to_height(file, kind, Rows(limit), &mut placements, &mut work);
     is(a, width, height) && is(folding::measure(file, kind, &placements), width, height)
 }
 
 fn to_width(file: &[u8], kind: Kind, limit: u32, width: u32, height: u32) -> bool {
     let mut placements = [4000000000u32; 36];
     let mut work = [7u32; 8192];
-    let a = fold::fold_to_width(file, kind, Slices(limit), &mut placements, &mut work);
+    let a = fold::to_width(file, kind, Slices(limit), &mut placements, &mut work);
     is(a, width, height) && is(folding::measure(file, kind, &placements), width, height)
 }
 
 fn no_height(file: &[u8], kind: Kind, limit: u32) -> bool {
     let mut placements = [0u32; 36];
     let mut work = [0u32; 8192];
-    is_unmeetable(fold::fold_to_height(file, kind, Rows(limit), &mut placements, &mut work))
+    is_unmeetable(fold::to_height(file, kind, Rows(limit), &mut placements, &mut work))
 }
 
 fn no_width(file: &[u8], kind: Kind, limit: u32) -> bool {
     let mut placements = [0u32; 36];
     let mut work = [0u32; 8192];
-    is_unmeetable(fold::fold_to_width(file, kind, Slices(limit), &mut placements, &mut work))
+    is_unmeetable(fold::to_width(file, kind, Slices(limit), &mut placements, &mut work))
 }
 
 fn less_one(n: u32) -> u32 {
@@ -258,9 +257,9 @@ fn begins(a: &[u32], b: &[u32]) -> bool {
 fn table_case(file: &[u8], kind: Kind, table: &[u32]) -> bool {
     let mut pairs = [0u32; 64];
     let mut work = [9u32; 8192];
-    match fold_table::outline_table(file, kind, &mut pairs, &mut work) {
-        Listed::Outlines(n) => n == table.len() / 2 && begins(&pairs, table),
-        Listed::Refused(k) => false,
+    match fold_table::table(file, kind, &mut pairs, &mut work) {
+        Counted::Count(n) => n == table.len() / 2 && begins(&pairs, table),
+        Counted::Refused(k) => false,
     }
 }
 
@@ -292,8 +291,8 @@ fn file_of(heights: &[u16], widths: &[u16], gaps: &[u16], n: usize, file: &mut [
     requires { ⌜ n ≤ length (now gaps) ⌝ }
 {
     match stack_write::write(&heights[..n], &widths[..n], &gaps[..n], file) {
-        Written::Bytes(k) => k,
-        Written::Refused(k) => 0,
+        Counted::Count(k) => k,
+        Counted::Refused(k) => 0,
     }
 }
 

@@ -11,14 +11,17 @@ pub enum Shape {
     /// Narrow and wide ones: a wide one fits beside a narrow one and clashes with every other.
     Clashes,
     Gaps,
+    /// Widths rise to the middle of the stack and fall again, with a little noise: the dearest stacks known.
+    SmoothWidths,
 }
 
-pub const SHAPES: [(Shape, &str); 5] = [
+pub const SHAPES: [(Shape, &str); 6] = [
     (Shape::Random, "random"),
     (Shape::EqualHeights, "equal heights"),
     (Shape::EqualWidths, "equal widths"),
     (Shape::Clashes, "many clashes"),
     (Shape::Gaps, "gaps"),
+    (Shape::SmoothWidths, "smooth widths"),
 ];
 
 pub struct Stack {
@@ -27,17 +30,25 @@ pub struct Stack {
 }
 
 pub fn stack(rng: &mut Rng, count: usize, shape: Shape) -> Stack {
-    let mut components: Vec<Component> = (0..count).map(|_| component(rng, shape)).collect();
-    components[count - 1].gap = Rows(0);
+    let last = count - 1;
+    let depth = |i: usize| 2.0 * i.min(last - i) as f64 / last as f64;
+    let mut components: Vec<Component> = (0..count).map(|i| component(rng, shape, depth(i))).collect();
+    components[last].gap = Rows(0);
     let file = write(&components).expect("the numbers are in range");
     Stack { components, file }
 }
 
-fn component(rng: &mut Rng, shape: Shape) -> Component {
-    let height = if shape == Shape::EqualHeights { 1000 } else { rng.within(1, 4000) };
+/// The depth says how far from the nearer end of the stack it stands: 0 at an end, 1 in the middle.
+fn component(rng: &mut Rng, shape: Shape, depth: f64) -> Component {
+    let height = match shape {
+        Shape::EqualHeights => 1000,
+        Shape::SmoothWidths => rng.within(2000, 4000),
+        _ => rng.within(1, 4000),
+    };
     let width = match shape {
         Shape::EqualWidths => 1000,
         Shape::Clashes => rng.within(1, 400) + if rng.one_in(2) { 3600 } else { 0 },
+        Shape::SmoothWidths => 300 + (3600.0 * depth * depth) as u32 + rng.within(0, 100),
         _ => rng.within(1, 4000),
     };
     let gap = if shape == Shape::Gaps { rng.within(0, 1000) } else { 0 };

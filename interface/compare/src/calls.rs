@@ -199,6 +199,8 @@ impl Caller {
             return Ok(answer.map(|_| Vec::new()));
         };
         same("the table has room", 2 * count <= room, true)?;
+        let widths: u32 = rules::check(file, nested).map_or(0, |stack| stack.iter().map(|c| c.width).sum());
+        same("no more outlines than the widths add up to", count <= widths as usize, true)?;
         pairs.unchanged_from(2 * count, "the pairs of a table")?;
         let line = |p: &[u32]| Outline { width: p[0], height: p[1] };
         let table: Vec<Outline> = pairs.now.chunks_exact(2).take(count).map(line).collect();

@@ -1,27 +1,33 @@
-//! Folds a stack file and prints the outline and the placements.
-//! Arguments: FILE apart|nested height|width LIMIT
-use stack_folds::{fold_to_height, fold_to_width, Folding, Kind, Rows, Side, Slices};
+//! Folds a stack file and prints the outline and the placements, or prints its outline table.
+//! Arguments: FILE apart|nested height|width LIMIT, or FILE apart|nested table
+use stack_folds::{table, to_height, to_width, Folding, Kind, Outline, Rows, Side, Slices};
 use std::{env, error::Error, fs, process::ExitCode};
 
-fn folding(words: &[String]) -> Result<Folding, Box<dyn Error>> {
-    let [path, kind, side, limit] = words else {
-        return Err("usage: fold_file FILE apart|nested height|width LIMIT".into());
-    };
+const USAGE: &str = "usage: fold_file FILE apart|nested height|width LIMIT\n       fold_file FILE apart|nested table";
+
+fn run(words: &[String]) -> Result<(), Box<dyn Error>> {
+    let [path, kind, what, rest @ ..] = words else { return Err(USAGE.into()) };
     let kind = match kind.as_str() {
         "apart" => Kind::Apart,
         "nested" => Kind::Nested,
         _ => return Err("the kind is apart or nested".into()),
     };
-    let (file, limit) = (fs::read(path)?, limit.parse()?);
-    match side.as_str() {
-        "height" => Ok(fold_to_height(&file, kind, Rows(limit))?),
-        "width" => Ok(fold_to_width(&file, kind, Slices(limit))?),
-        _ => Err("the limit is a height or a width".into()),
+    let file = fs::read(path)?;
+    match (what.as_str(), rest) {
+        ("height", [limit]) => print(&to_height(&file, kind, Rows(limit.parse()?))?),
+        ("width", [limit]) => print(&to_width(&file, kind, Slices(limit.parse()?))?),
+        ("table", []) => table(&file, kind)?.iter().for_each(print_outline),
+        _ => return Err(USAGE.into()),
     }
+    Ok(())
+}
+
+fn print_outline(outline: &Outline) {
+    println!("width {} height {}", outline.width.0, outline.height.0);
 }
 
 fn print(folding: &Folding) {
-    println!("width {} height {}", folding.outline.width.0, folding.outline.height.0);
+    print_outline(&folding.outline);
     for (i, p) in folding.placements.iter().enumerate() {
         let side = if p.side == Side::Left { "left" } else { "right" };
         println!("C{} group {} {} start {}", i + 1, p.group, side, p.start.0);
@@ -30,12 +36,11 @@ fn print(folding: &Folding) {
 
 fn main() -> ExitCode {
     let words: Vec<String> = env::args().skip(1).collect();
-    match folding(&words) {
-        Ok(folding) => print(&folding),
+    match run(&words) {
+        Ok(()) => ExitCode::SUCCESS,
         Err(why) => {
             eprintln!("{why}");
-            return ExitCode::FAILURE;
+            ExitCode::FAILURE
         }
     }
-    ExitCode::SUCCESS
 }

@@ -2,12 +2,12 @@
 //! width and lists the unbeaten outlines. Rows and slices are types of their own, so a height cannot be passed as a width.
 //!
 //! ```
-//! use stack_folds::{fold_to_height, write, Component, Kind, Rows, Slices};
+//! use stack_folds::{to_height, write, Component, Kind, Rows, Slices};
 //!
 //! let sizes = [(1, 3), (1, 1), (1, 1), (1, 3)];
 //! let stack = sizes.map(|(h, w)| Component { height: Rows(h), width: Slices(w), gap: Rows(0) });
 //! let file = write(&stack)?;
-//! let folding = fold_to_height(&file, Kind::Nested, Rows(3))?;
+//! let folding = to_height(&file, Kind::Nested, Rows(3))?;
 //! assert_eq!(folding.outline.width, Slices(3));
 //! # Ok::<(), stack_folds::Refusal>(())
 //! ```
@@ -184,28 +184,21 @@ pub fn choose<'a>(file: &[u8], kind: Kind, first: &'a [Placement], second: &'a [
 }
 
 /// The narrowest folding that is at most `limit` high, and of those the lowest. Refusals 1 to 7, 9.
-pub fn fold_to_height(file: &[u8], kind: Kind, limit: Rows) -> Result<Folding, Refusal> {
+pub fn to_height(file: &[u8], kind: Kind, limit: Rows) -> Result<Folding, Refusal> {
     fold(file, kind, |placements, work| raw::to_height(file, nested(kind), limit.0, placements, work))
 }
 
 /// The lowest folding that is at most `limit` wide, and of those the narrowest. Refusals 1 to 7, 9.
-pub fn fold_to_width(file: &[u8], kind: Kind, limit: Slices) -> Result<Folding, Refusal> {
+pub fn to_width(file: &[u8], kind: Kind, limit: Slices) -> Result<Folding, Refusal> {
     fold(file, kind, |placements, work| raw::to_width(file, nested(kind), limit.0, placements, work))
 }
 
 /// The unbeaten outlines: widths rise, heights fall. Refusals 1 to 6.
 pub fn table(file: &[u8], kind: Kind) -> Result<Vec<Outline>, Refusal> {
-    check(file, kind)?;
-    let mut work = vec![0; raw::WORK];
-    let mut pairs = vec![0; 2 * 1024];
-    loop {
-        match counted(raw::table(file, nested(kind), &mut pairs, &mut work)) {
-            Ok(count) => return Ok(pairs.chunks_exact(2).take(count).map(|p| outline(p[0], p[1])).collect()),
-            // The work buffer is long enough, so the table has more pairs. Widths rise strictly, so this ends.
-            Err(Refusal::ShortBuffer) => pairs.resize(2 * pairs.len(), 0),
-            Err(refusal) => return Err(refusal),
-        }
-    }
+    let n = check(file, kind)?;
+    let (mut pairs, mut work) = (vec![0; raw::pairs(n)], vec![0; raw::WORK]);
+    let count = counted(raw::table(file, nested(kind), &mut pairs, &mut work))?;
+    Ok(pairs.chunks_exact(2).take(count).map(|p| outline(p[0], p[1])).collect())
 }
 
 fn fold(
@@ -247,4 +240,34 @@ fn flat(placements: &[Placement]) -> Vec<u32> {
 /// What does not fit 16 bits is out of every range, and so is the greatest 16-bit number: the refusal is the same.
 fn narrow(number: u32) -> u16 {
     u16::try_from(number).unwrap_or(u16::MAX)
+}
+
+#[cfg(test)]
+mod tests {
+    use super::*;
+
+    const HEADER: &str = include_str!("../../stack_folds.h");
+
+    /// What C reads: the refusals' names, numbers and words, and the lengths.
+    #[test]
+    fn the_header_has_the_same_numbers_and_words() {
+        let words: Vec<&str> = HEADER.split('"').skip(1).step_by(2).skip_while(|text| !text.is_empty()).collect();
+        for refusal in Refusal::ALL {
+            let name = refusal.word().replace(' ', "_").to_uppercase();
+            assert!(HEADER.contains(&format!("#define FOLDS_{name} {}\n", refusal.number())), "{name}");
+            assert_eq!(words[refusal.number() as usize], refusal.word());
+        }
+        assert!(HEADER.contains(&format!("#define FOLDS_WORK {}\n", raw::WORK)));
+        assert!(HEADER.contains("#define FOLDS_PAIRS(n) ((size_t)2 * 4000 * (n))\n"));
+        assert_eq!(raw::pairs(1), 2 * 4000);
+    }
+
+    #[test]
+    fn refusals_and_their_numbers() {
+        for (at, refusal) in Refusal::ALL.into_iter().enumerate() {
+            assert_eq!(refusal.number() as usize, at + 1);
+            assert_eq!(Refusal::unless(refusal.number()), Err(refusal));
+        }
+        assert_eq!(Refusal::unless(0), Ok(()));
+    }
 }

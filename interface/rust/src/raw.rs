@@ -28,6 +28,11 @@ pub struct Part {
 /// The least length of a work buffer.
 pub const WORK: usize = 8192;
 
+/// So many numbers hold the table of every stack of n components: it has no more pairs than the widths add up to.
+pub fn pairs(n: usize) -> usize {
+    2 * 4000 * n
+}
+
 // Pointer and length are two parameters here, as in C. A slice as one parameter would be wrong: Rust keeps its two words
 // together, on the stack where a single register is left, and the library takes them apart. So it is for the last slice
 // of folds_choose and of folds_table.

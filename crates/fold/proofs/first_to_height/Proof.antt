@@ -32,10 +32,10 @@ slice-aggregate-write-best-3 : tie.Need-slice-aggregate-write-best-3
 slice-aggregate-write-best-3 c = sym (length-take-le _ _ (c .before .before .before .before .before .before .before .before .before .before .before .pre .gaps-long))
 
 write-best-requires : tie.Need-write-best-requires
-write-best-requires c κs = let a = c .before .before .before .before .before .before .before .before .before .before .before .before .before .args in search-asks (a .kind) (a .n) (a .limit) (now (a .h)) (now (a .w)) (now (a .g)) (now (a .out)) (now (a .work)) (c .before .before .before .before .before .before .before .before .before .before .before .before .before .pre) _ (sym (c .before .before .before .before .before .before .before .check-lent .ensures) ∙ ap countAnswer (c .before .before .before .before .before .enum-told .given .1))
+write-best-requires c κs = let a = c .before .before .before .before .before .before .before .before .before .before .before .before .before .args in search-asks (a .kind) (a .n) (a .limit .0) (now (a .h)) (now (a .w)) (now (a .g)) (now (a .out)) (now (a .work)) (c .before .before .before .before .before .before .before .before .before .before .before .before .before .pre) _ (sym (c .before .before .before .before .before .before .before .check-lent .ensures) ∙ ap countAnswer (c .before .before .before .before .before .enum-told .given .1))
 
 returns : tie.Need-returns
-returns c = let a = c .before .before .before .before .before .before .before .before .before .args in first-refused BestForHeight UnmeetableHeight (a .kind) (a .limit) (now (a .out)) (now (a .work)) (a .n) _ (componentsIn (take (a .n) (now (a .h))) (take (a .n) (now (a .w))) (take (a .n) (now (a .g)))) (sym (c .before .before .before .check-lent .ensures) ∙ ap countAnswer (c .before .k .given .1))
+returns c = let a = c .before .before .before .before .before .before .before .before .before .args in first-refused BestForHeight UnmeetableHeight (a .kind) (a .limit .0) (now (a .out)) (now (a .work)) (a .n) _ (componentsIn (take (a .n) (now (a .h))) (take (a .n) (now (a .w))) (take (a .n) (now (a .g)))) (sym (c .before .before .before .check-lent .ensures) ∙ ap countAnswer (c .before .k .given .1))
 
 same-length : tie.Need-same-length
 same-length c = search needs
@@ -44,7 +44,7 @@ same-length-2 : tie.Need-same-length-2
 same-length-2 c = search needs
 
 returns-2 : tie.Need-returns-2
-returns-2 c = let a = c .before .before .before .before .before .before .before .before .before .before .before .before .before .before .before .before .before .before .args in first-height (a .kind) (a .n) (a .limit) (now (a .h)) (now (a .w)) (now (a .g)) (now (a .out)) (now (a .work)) (c .before .before .before .before .before .before .before .before .before .before .before .before .before .before .before .before .before .before .pre) _ (sym (c .before .before .before .before .before .before .before .before .before .before .before .before .check-lent .ensures) ∙ ap countAnswer (c .before .before .before .before .before .before .before .before .before .before .enum-told .given .1)) (c .before .before .before .before .write-best .last .1 .1 .1 .1 .1 .0) _ (measuredAnswer (c .before .before .before .before .write-best .result)) (c .before .before .before .before .write-best .ensures)
+returns-2 c = let a = c .before .before .before .before .before .before .before .before .before .before .before .before .before .before .before .before .before .before .args in first-height (a .kind) (a .n) (a .limit .0) (now (a .h)) (now (a .w)) (now (a .g)) (now (a .out)) (now (a .work)) (c .before .before .before .before .before .before .before .before .before .before .before .before .before .before .before .before .before .before .pre) _ (sym (c .before .before .before .before .before .before .before .before .before .before .before .before .check-lent .ensures) ∙ ap countAnswer (c .before .before .before .before .before .before .before .before .before .before .enum-told .given .1)) (c .before .before .before .before .write-best .last .1 .1 .1 .1 .1 .0) _ (measuredAnswer (c .before .before .before .before .write-best .result)) (c .before .before .before .before .write-best .ensures)
 
 pub first-to-height-spec : {M : Type 1} → statement M
 first-to-height-spec =

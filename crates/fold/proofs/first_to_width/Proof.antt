@@ -32,10 +32,10 @@ slice-aggregate-write-slim-3 : tie.Need-slice-aggregate-write-slim-3
 slice-aggregate-write-slim-3 c = sym (length-take-le _ _ (c .before .before .before .before .before .before .before .before .before .before .before .pre .gaps-long))
 
 write-slim-requires : tie.Need-write-slim-requires
-write-slim-requires c κs = let a = c .before .before .before .before .before .before .before .before .before .before .before .before .before .args in search-asks (a .kind) (a .n) (a .limit) (now (a .h)) (now (a .w)) (now (a .g)) (now (a .out)) (now (a .work)) (c .before .before .before .before .before .before .before .before .before .before .before .before .before .pre) _ (sym (c .before .before .before .before .before .before .before .check-lent .ensures) ∙ ap countAnswer (c .before .before .before .before .before .enum-told .given .1))
+write-slim-requires c κs = let a = c .before .before .before .before .before .before .before .before .before .before .before .before .before .args in search-asks (a .kind) (a .n) (a .limit .0) (now (a .h)) (now (a .w)) (now (a .g)) (now (a .out)) (now (a .work)) (c .before .before .before .before .before .before .before .before .before .before .before .before .before .pre) _ (sym (c .before .before .before .before .before .before .before .check-lent .ensures) ∙ ap countAnswer (c .before .before .before .before .before .enum-told .given .1))
 
 returns : tie.Need-returns
-returns c = let a = c .before .before .before .before .before .before .before .before .before .args in first-refused BestForWidth UnmeetableWidth (a .kind) (a .limit) (now (a .out)) (now (a .work)) (a .n) _ (componentsIn (take (a .n) (now (a .h))) (take (a .n) (now (a .w))) (take (a .n) (now (a .g)))) (sym (c .before .before .before .check-lent .ensures) ∙ ap countAnswer (c .before .k .given .1))
+returns c = let a = c .before .before .before .before .before .before .before .before .before .args in first-refused BestForWidth UnmeetableWidth (a .kind) (a .limit .0) (now (a .out)) (now (a .work)) (a .n) _ (componentsIn (take (a .n) (now (a .h))) (take (a .n) (now (a .w))) (take (a .n) (now (a .g)))) (sym (c .before .before .before .check-lent .ensures) ∙ ap countAnswer (c .before .k .given .1))
 
 same-length : tie.Need-same-length
 same-length c = search needs
@@ -44,7 +44,7 @@ same-length-2 : tie.Need-same-length-2
 same-length-2 c = search needs
 
 returns-2 : tie.Need-returns-2
-returns-2 c = let a = c .before .before .before .before .before .before .before .before .before .before .before .before .before .before .before .before .before .before .args in first-searched (a .kind) (a .n) (a .limit) (now (a .h)) (now (a .w)) (now (a .g)) (now (a .out)) (now (a .work)) (c .before .before .before .before .before .before .before .before .before .before .before .before .before .before .before .before .before .before .pre) _ (sym (c .before .before .before .before .before .before .before .before .before .before .before .before .check-lent .ensures) ∙ ap countAnswer (c .before .before .before .before .before .before .before .before .before .before .enum-told .given .1)) BestForWidth UnmeetableWidth (c .before .before .before .before .write-slim .last .1 .1 .1 .1 .1 .0) _ (measuredAnswer (c .before .before .before .before .write-slim .result)) (c .before .before .before .before .write-slim .ensures)
+returns-2 c = let a = c .before .before .before .before .before .before .before .before .before .before .before .before .before .before .before .before .before .before .args in first-searched (a .kind) (a .n) (a .limit .0) (now (a .h)) (now (a .w)) (now (a .g)) (now (a .out)) (now (a .work)) (c .before .before .before .before .before .before .before .before .before .before .before .before .before .before .before .before .before .before .pre) _ (sym (c .before .before .before .before .before .before .before .before .before .before .before .before .check-lent .ensures) ∙ ap countAnswer (c .before .before .before .before .before .before .before .before .before .before .enum-told .given .1)) BestForWidth UnmeetableWidth (c .before .before .before .before .write-slim .last .1 .1 .1 .1 .1 .0) _ (measuredAnswer (c .before .before .before .before .write-slim .result)) (c .before .before .before .before .write-slim .ensures)
 
 pub first-to-width-spec : {M : Type 1} → statement M
 first-to-width-spec =

@@ -1,4 +1,4 @@
-use Rattle.fold_table.specs.Calls.{listedAnswer}
+use Rattle.terms.specs.Answer.{countAnswer}
 use lib.ListN.{take}
 use Rattle.terms.specs.Component.{componentsIn}
 use lib.Seq.{length-take-le}
@@ -32,7 +32,7 @@ same-length-2 : tie.Need-same-length-2
 same-length-2 c = search needs
 
 returns-2 : tie.Need-returns-2
-returns-2 c = let a = c .before .before .before .before .before .before .before .before .before .before .before .before .before .before .before .before .args in tabled (a .kind) (now (a .out)) (now (a .work)) (c .before .before .before .before .list-outlines .last .1 .1 .1 .1 .0) (c .before .before .before .before .list-outlines .last .1 .1 .1 .1 .1 .0) (listedAnswer (c .before .before .before .before .list-outlines .result)) (componentsIn (take (a .n) (now (a .h))) (take (a .n) (now (a .w))) (take (a .n) (now (a .g)))) (c .before .before .before .before .before .before .before .before .before .before .if1 .left) (c .before .before .before .before .list-outlines .ensures)
+returns-2 c = let a = c .before .before .before .before .before .before .before .before .before .before .before .before .before .before .before .before .args in tabled (a .kind) (now (a .out)) (now (a .work)) (c .before .before .before .before .list-outlines .last .1 .1 .1 .1 .0) (c .before .before .before .before .list-outlines .last .1 .1 .1 .1 .1 .0) (countAnswer (c .before .before .before .before .list-outlines .result)) (componentsIn (take (a .n) (now (a .h))) (take (a .n) (now (a .w))) (take (a .n) (now (a .g)))) (c .before .before .before .before .before .before .before .before .before .before .if1 .left) (c .before .before .before .before .list-outlines .ensures)
 
 pub first-outlines-spec : {M : Type 1} → statement M
 first-outlines-spec =

@@ -5,7 +5,7 @@ use Rattle.folding.proofs.group_outline.Statement.{statement}
 use Rattle.folding.proofs.group_outline.Tie as tie
 
 group-width-requires : tie.Need-group-width-requires
-group-width-requires c κs = (c .before .before .before .before .pre .0 .flat-group .few, c .before .before .before .before .pre .0 .widths-long, c .before .before .before .before .pre .0 .flat-group .flat-long, c .before .before .before .before .pre .0 .flat-group .low)
+group-width-requires c κs = ((c .before .before .before .before .pre .0 .flat-group .few, c .before .before .before .before .pre .0 .flat-group .flat-long, c .before .before .before .before .pre .0 .flat-group .low), c .before .before .before .before .pre .0 .widths-long)
 
 group-height-requires : tie.Need-group-height-requires
 group-height-requires c κs = (c .before .before .before .before .before .pre .0 .flat-group, c .before .before .before .before .before .pre .1)

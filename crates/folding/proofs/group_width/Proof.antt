@@ -1,6 +1,6 @@
 use Prim.Native.Nat.{_-_, _*_, _≤_}
 use lib.ListN.{length}
-use Rattle.folding.specs.Inner.{startAt, sumAt}
+use Rattle.folding.specs.Inner.{sumAtStart}
 use Rattle.folding.specs.Outline.{greatest}
 use Rattle.folding.proofs.Steps.{greatest-none, greatest-more}
 use native.Mathlib.Omega.{arith}
@@ -11,7 +11,7 @@ use Rattle.folding.proofs.group_width.Statement.{statement}
 use Rattle.folding.proofs.group_width.Tie as tie
 
 abbrev Inv-loop : tie.InvT-loop
-Inv-loop heights widths flat width₀ i₀ width i = (i ≤ length heights) × (width ≡ greatest (λ j. sumAt heights widths flat (startAt flat j)) i) × (width ≤ 65535 * length heights)
+Inv-loop heights widths flat width₀ i₀ width i = (i ≤ length heights) × (width ≡ greatest (sumAtStart heights widths flat) i) × (width ≤ 65535 * length heights)
 
 abbrev μ-loop : tie.MeasureT-loop
 μ-loop heights widths flat width₀ i₀ width i = length heights - i
@@ -44,7 +44,7 @@ loop-less : tie.Need-loop-less Inv-loop μ-loop
 loop-less c = search needs
 
 loop-again : tie.Need-loop-again Inv-loop μ-loop
-loop-again c = (omega arith, omega (arith, greatest-more (λ j. sumAt (now (c .before .before .before .before .before .before .before .before .args .heights)) (now (c .before .before .before .before .before .before .before .before .args .widths)) (now (c .before .before .before .before .before .before .before .before .args .flat)) (startAt (now (c .before .before .before .before .before .before .before .before .args .flat)) j)) (c .before .before .before .before .loop .i), c .larger .ensures, c .before .row-sum .ensures .0), omega (arith, c .larger .ensures, c .before .row-sum .ensures .1))
+loop-again c = (omega arith, omega (arith, greatest-more (sumAtStart (now (c .before .before .before .before .before .before .before .before .args .heights)) (now (c .before .before .before .before .before .before .before .before .args .widths)) (now (c .before .before .before .before .before .before .before .before .args .flat))) (c .before .before .before .before .loop .i), c .larger .ensures, c .before .row-sum .ensures .0), omega (arith, c .larger .ensures, c .before .row-sum .ensures .1))
 
 returns : tie.Need-returns Inv-loop μ-loop
 returns c = let e : c .before .loop .i ≡ length (now (c .before .before .before .before .before .args .heights)) = omega arith in (rw e at (c .before .loop .inv .1), c .before .loop .inv .2)

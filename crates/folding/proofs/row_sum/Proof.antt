@@ -19,7 +19,7 @@ loop-holds : tie.Need-loop-holds Inv-loop μ-loop
 loop-holds c = (omega arith, sym (total-none _), omega arith)
 
 share-requires : tie.Need-share-requires Inv-loop μ-loop
-share-requires c κs = (c .loop-test .taken, omega arith, omega arith, omega arith, c .before .before .before .before .before .pre .3 (c .before .loop .i) (c .loop-test .taken))
+share-requires c κs = ((c .loop-test .taken, omega arith, omega arith, c .before .before .before .before .before .pre .0 .2 (c .before .loop .i) (c .loop-test .taken)), omega arith)
 
 add-sum : tie.Need-add-sum Inv-loop μ-loop
 add-sum c = search needs

@@ -5,14 +5,14 @@ use borrow.Author.Needs.{needs}
 use Rattle.folds.proofs.say_table.Statement.{statement}
 use Rattle.folds.proofs.say_table.Tie as tie
 
-outline-table-requires : tie.Need-outline-table-requires
-outline-table-requires c κs = search needs
+table-requires : tie.Need-table-requires
+table-requires c κs = search needs
 
 enum-known-n : tie.Need-enum-known-n
 enum-known-n c = search needs
 
 say-pairs-requires : tie.Need-say-pairs-requires
-say-pairs-requires c κs = fits (c .before .before .before .before .before .before .before .before .before .before .before .before .before .before .before .args .kind) (now (c .before .before .before .before .before .before .before .before .before .before .before .before .before .before .before .args .file)) (now (c .before .before .before .before .before .before .before .before .before .before .before .before .before .before .before .args .pairs)) (now (c .before .before .before .before .before .before .before .before .before .before .before .before .before .before .before .args .work)) (c .before .before .before .before .before .before .before .before .outline-table .last .1 .1 .0) (c .before .before .before .before .before .before .before .before .outline-table .last .1 .1 .1 .0) _ _ (c .before .before .before .before .before .before .before .before .outline-table .ensures) (c .before .before .n .given .1) (c .before .before .before .before .before .before .before .before .outline-table .kept .1 .1 .0)
+say-pairs-requires c κs = fits (c .before .before .before .before .before .before .before .before .before .before .before .before .before .before .before .args .kind) (now (c .before .before .before .before .before .before .before .before .before .before .before .before .before .before .before .args .file)) (now (c .before .before .before .before .before .before .before .before .before .before .before .before .before .before .before .args .pairs)) (now (c .before .before .before .before .before .before .before .before .before .before .before .before .before .before .before .args .work)) (c .before .before .before .before .before .before .before .before .table .last .1 .1 .0) (c .before .before .before .before .before .before .before .before .table .last .1 .1 .1 .0) _ _ (c .before .before .before .before .before .before .before .before .table .ensures) (c .before .before .n .given .1) (c .before .before .before .before .before .before .before .before .table .kept .1 .1 .0)
 
 enum-known-k : tie.Need-enum-known-k
 enum-known-k c = search needs
@@ -60,7 +60,7 @@ pub say-table-spec : {M : Type 1} → statement M
 say-table-spec =
     tie.close
     (tie.spec
-    outline-table-requires
+    table-requires
     enum-known-n
     say-pairs-requires
     enum-known-k

@@ -8,10 +8,10 @@ use Rattle.group_height.proofs.over_folds.Statement.{statement}
 use Rattle.group_height.proofs.over_folds.Tie as tie
 
 abbrev Inv-loop : tie.InvT-loop
-Inv-loop g0 g e m last most v₀ at₀ p₀ v at p = Passing g0 g e v at p
+Inv-loop g e before m last most v₀ at₀ p₀ v at p = Passing before g e v at p
 
 abbrev μ-loop : tie.MeasureT-loop
-μ-loop g0 g e m last most v₀ at₀ p₀ v at p = length g - p
+μ-loop g e before m last most v₀ at₀ p₀ v at p = length g - p
 
 sub-get : tie.Need-sub-get Inv-loop μ-loop
 sub-get c = search needs

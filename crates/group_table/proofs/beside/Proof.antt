@@ -24,7 +24,7 @@ add-result : tie.Need-add-result
 add-result c = search needs
 
 returns-3 : tie.Need-returns-3
-returns-3 c = sharing _ _ _ _ _ _ (omega arith) (omega arith) (c .before .get .ensures .0) (c .get2 .ensures .0)
+returns-3 c = sharing _ _ _ _ _ _ (omega arith) (omega arith) (c .before .before .get .ensures .0) (c .before .get2 .ensures .0)
 
 pub beside-spec : {M : Type 1} → statement M
 beside-spec =

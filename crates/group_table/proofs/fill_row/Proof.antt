@@ -5,7 +5,7 @@ use Rattle.group_table.proofs.fill_row.Statement.{statement}
 use Rattle.group_table.proofs.fill_row.Tie as tie
 
 abbrev Inv-loop : tie.InvT-loop
-Inv-loop h w e₀ p cap q₀ e q = Row h w e₀ e cap p q
+Inv-loop h w e₀ p cap q₀ e q = Row h w e₀ e (cap .0) p q
 
 abbrev μ-loop : tie.MeasureT-loop
 μ-loop h w e₀ p cap q₀ e q = q

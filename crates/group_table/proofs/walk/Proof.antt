@@ -7,7 +7,7 @@ use Rattle.group_table.proofs.walk.Statement.{statement}
 use Rattle.group_table.proofs.walk.Tie as tie
 
 abbrev Inv-loop : tie.InvT-loop
-Inv-loop h w e p q cap x₀ y₀ a₀ b₀ x y a b = Walking h w p q cap x y a b
+Inv-loop h w e p q cap x₀ y₀ a₀ b₀ x y a b = Walking h w p q (cap .0) x y a b
 
 abbrev μ-loop : tie.MeasureT-loop
 μ-loop h w e p q cap x₀ y₀ a₀ b₀ x y a b = x + (length h - y)

@@ -6,7 +6,7 @@ use Rattle.group_trace.proofs.write_group.Statement.{statement}
 use Rattle.group_trace.proofs.write_group.Tie as tie
 
 abbrev Inv-loop : tie.InvT-loop
-Inv-loop h w e out₀ group p cap left₀ right₀ a₀ b₀ out left right a b = Writing h w out₀ group p cap out left right a b
+Inv-loop h w e out₀ group p cap left₀ right₀ a₀ b₀ out left right a b = Writing h w out₀ group p (cap .0) out left right a b
 
 abbrev μ-loop : tie.MeasureT-loop
 μ-loop h w e out₀ group p cap left₀ right₀ a₀ b₀ out left right a b = length h - (right - left)

@@ -1,42 +1,24 @@
-use Rattle.plan.proofs.Outlines.{plan-asks, planned-outline}
-use mathlib.Core.Path.{refl}
+use Rattle.plan.proofs.Outlines.{planned-outline}
 use borrow.Author.Needs.{needs}
 use Rattle.plan.proofs.outline_at.Statement.{statement}
 use Rattle.plan.proofs.outline_at.Tie as tie
 
-slice-aggregate-plan : tie.Need-slice-aggregate-plan
-slice-aggregate-plan c = search needs
+layouts-for-requires : tie.Need-layouts-for-requires
+layouts-for-requires c κs = search needs
 
-slice-aggregate-plan-2 : tie.Need-slice-aggregate-plan-2
-slice-aggregate-plan-2 c = search needs
+element-copy-out-t13 : tie.Need-element-copy-out-t13
+element-copy-out-t13 c = search needs
 
-slice-aggregate-plan-3 : tie.Need-slice-aggregate-plan-3
-slice-aggregate-plan-3 c = search needs
-
-plan-requires : tie.Need-plan-requires
-plan-requires c κs = plan-asks _ _ _ _ _ _ (c .before .before .before .before .before .before .before .before .pre .0) (c .before .before .before .before .before .before .before .before .pre .1) _ _ _ refl refl refl
-
-array-read-t21 : tie.Need-array-read-t21
-array-read-t21 c = search needs
-
-array-read-t25 : tie.Need-array-read-t25
-array-read-t25 c = search needs
+element-copy-out-t17 : tie.Need-element-copy-out-t17
+element-copy-out-t17 c = search needs
 
 same-length : tie.Need-same-length
 same-length c = search needs
 
 returns : tie.Need-returns
-returns c = planned-outline _ _ _ _ _ _ (c .before .before .before .before .before .before .before .before .before .before .before .before .before .before .pre .0) (c .before .before .before .before .before .before .before .before .before .before .before .before .before .before .pre .1) _ _ _ (c .before .before .before .before .before .plan .ensures)
+returns c = planned-outline _ _ _ _ _ _ (c .before .before .before .before .before .before .before .before .before .before .pre .0) (c .before .before .before .before .before .before .before .before .before .before .pre .1) _ _ _ (c .before .before .before .before .layouts-for .ensures)
 
 pub outline-at-spec : {M : Type 1} → statement M
 outline-at-spec =
     tie.close
-    (tie.spec
-    slice-aggregate-plan
-    slice-aggregate-plan-2
-    slice-aggregate-plan-3
-    plan-requires
-    array-read-t21
-    array-read-t25
-    same-length
-    returns)
+    (tie.spec layouts-for-requires element-copy-out-t13 element-copy-out-t17 same-length returns)

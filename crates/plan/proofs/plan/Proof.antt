@@ -13,7 +13,7 @@ use Rattle.plan.proofs.plan.Tie as tie
 
 abbrev Inv-loop : tie.InvT-loop
 Inv-loop kind limit h w g widths₀ heights₀ ends₀ work₀ i₀ widths heights ends work i =
-    PlannedFrom kind limit (componentsIn h w g) widths heights ends i × (i ≤ length h) × (length widths ≡ length widths₀) × (length heights ≡ length heights₀) × (length ends ≡ length ends₀) × (length work ≡ length work₀)
+    PlannedFrom kind (limit .0) (componentsIn h w g) widths heights ends i × (i ≤ length h) × (length widths ≡ length widths₀) × (length heights ≡ length heights₀) × (length ends ≡ length ends₀) × (length work ≡ length work₀)
 
 abbrev μ-loop : tie.MeasureT-loop
 μ-loop kind limit h w g widths₀ heights₀ ends₀ work₀ i₀ widths heights ends work i = i
@@ -67,7 +67,7 @@ loop-less : tie.Need-loop-less Inv-loop μ-loop
 loop-less c = search needs
 
 loop-again : tie.Need-loop-again Inv-loop μ-loop
-loop-again c = (plan-more (c .before .before .before .before .before .before .before .before .before .before .before .before .before .before .before .pre) (c .before .before .before .before .before .before .before .loop .inv .0) (c .before .before .before .before .before .before .before .loop .inv .2) (c .before .before .before .before .before .before .before .loop .inv .3) (c .before .before .before .before .before .before .before .loop .inv .4) (c .before .before .before .before .before .before .before .loop .i - 1) (omega arith) (c .before .before .before .before .before .before .before .loop .inv .1) _ (c .before .before .best-from .ensures), omega arith, length-set (c .before .before .before .before .before .before .before .loop .widths) (c .before .before .before .before .before .before .before .loop .i - 1) (c .before .before .best-from .result .width) ∙ c .before .before .before .before .before .before .before .loop .inv .2, length-set (c .before .before .before .before .before .before .before .loop .heights) (c .before .before .before .before .before .before .before .loop .i - 1) (c .before .before .best-from .result .height) ∙ c .before .before .before .before .before .before .before .loop .inv .3, length-set (c .before .before .before .before .before .before .before .loop .ends) (c .before .before .before .before .before .before .before .loop .i - 1) (c .before .before .best-from .result .end) ∙ c .before .before .before .before .before .before .before .loop .inv .4, omega (arith, c .before .before .before .before .before .before .before .loop .inv .5))
+loop-again c = (plan-more (c .before .before .before .before .before .before .before .before .before .before .before .before .before .before .before .pre) (c .before .before .before .before .before .before .before .loop .inv .0) (c .before .before .before .before .before .before .before .loop .inv .2) (c .before .before .before .before .before .before .before .loop .inv .3) (c .before .before .before .before .before .before .before .loop .inv .4) (c .before .before .before .before .before .before .before .loop .i - 1) (omega arith) (c .before .before .before .before .before .before .before .loop .inv .1) _ (c .before .before .best-from .ensures), omega arith, length-set (c .before .before .before .before .before .before .before .loop .widths) (c .before .before .before .before .before .before .before .loop .i - 1) (c .before .before .best-from .result .width .0) ∙ c .before .before .before .before .before .before .before .loop .inv .2, length-set (c .before .before .before .before .before .before .before .loop .heights) (c .before .before .before .before .before .before .before .loop .i - 1) (c .before .before .best-from .result .height .0) ∙ c .before .before .before .before .before .before .before .loop .inv .3, length-set (c .before .before .before .before .before .before .before .loop .ends) (c .before .before .before .before .before .before .before .loop .i - 1) (c .before .before .best-from .result .end) ∙ c .before .before .before .before .before .before .before .loop .inv .4, omega (arith, c .before .before .before .before .before .before .before .loop .inv .5))
 
 same-length : tie.Need-same-length Inv-loop μ-loop
 same-length c = c .before .loop .inv .2 ∙ length-set (now (c .before .before .before .before .before .before .before .before .before .args .widths)) (length (now (c .before .before .before .before .before .before .before .before .before .args .h))) 0

@@ -24,13 +24,13 @@ add-height-2 : tie.Need-add-height-2
 add-height-2 c = search needs
 
 returns : tie.Need-returns
-returns c = flat-high (c .before .before .before .before .before .before .pre .0) _ _ (c .before .before .before .before .before .before .pre .1) (c .before .wide .ensures .0) (c .if1 .taken)
+returns c = flat-high (c .before .before .before .before .before .before .before .before .before .pre .0) _ _ (c .before .before .before .before .before .before .before .before .before .pre .1 .0) (c .before .before .wide .ensures .0) (c .if1 .taken)
 
 returns-2 : tie.Need-returns-2
-returns-2 c = rest-none (c .before .before .before .before .before .before .before .before .pre .0) (c .if2 .taken)
+returns-2 c = rest-none (c .before .before .before .before .before .before .before .before .before .before .before .pre .0) (c .if2 .taken)
 
 add-t12 : tie.Need-add-t12
-add-t12 c = omega (arith, wide-4000 (c .before .before .before .before .before .before .before .before .before .pre .0))
+add-t12 c = omega (arith, wide-4000 (c .before .before .before .before .before .before .before .before .before .before .before .before .before .pre .0))
 
 larger-requires : tie.Need-larger-requires
 larger-requires c κs = search needs
@@ -42,7 +42,7 @@ pick-requires : tie.Need-pick-requires
 pick-requires c κs = search needs
 
 returns-3 : tie.Need-returns-3
-returns-3 c = flat-tried (c .before .before .before .before .before .before .before .before .before .before .before .before .pre .0) _ _ (c .before .before .before .before .before .before .before .before .before .before .before .before .pre .1) (c .before .before .before .before .before .before .before .wide .ensures .0) _ _ _ (c .before .before .before .before .before .before .if1 .left) (c .before .before .before .before .if2 .left) (c .before .before .larger .ensures) (c .before .count .ensures) (c .pick .ensures)
+returns-3 c = flat-tried (c .before .before .before .before .before .before .before .before .before .before .before .before .before .before .before .before .pre .0) _ _ (c .before .before .before .before .before .before .before .before .before .before .before .before .before .before .before .before .pre .1 .0) (c .before .before .before .before .before .before .before .before .before .wide .ensures .0) _ _ _ (c .before .before .before .before .before .before .before .if1 .left) (c .before .before .before .before .before .if2 .left) (c .before .before .larger .ensures) (c .before .count .ensures) (c .pick .ensures)
 
 pub try-flat-spec : {M : Type 1} → statement M
 try-flat-spec =

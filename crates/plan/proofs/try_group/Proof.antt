@@ -7,13 +7,13 @@ enum-told : tie.Need-enum-told
 enum-told c = search needs
 
 try-flat-requires : tie.Need-try-flat-requires
-try-flat-requires c κs = (rw (c .enum-told .given .1) at (c .before .before .before .before .before .before .pre .0), c .before .before .before .before .before .before .pre .1, c .before .before .before .before .before .before .pre .2)
+try-flat-requires c κs = (rw (c .enum-told .given .1) at (c .before .before .before .before .before .before .pre .0), c .before .before .before .before .before .before .pre .1 .0)
 
 enum-told-2 : tie.Need-enum-told-2
 enum-told-2 c = search needs
 
 try-folds-requires : tie.Need-try-folds-requires
-try-folds-requires c κs = (rw (c .before .enum-told2 .given .1) at (c .before .before .before .before .before .before .before .pre .0), c .before .before .before .before .before .before .before .pre .3)
+try-folds-requires c κs = (rw (c .before .enum-told2 .given .1) at (c .before .before .before .before .before .before .before .pre .0), c .before .before .before .before .before .before .before .pre .1 .1)
 
 returns : tie.Need-returns
 returns c = rw (c .before .enum-told .given .1) (c .try-flat .ensures)

@@ -3,17 +3,17 @@ use Rattle.terms.proofs.Parts.{from-length}
 use Rattle.stack_write.proofs.Writing.{other-widths, other-gaps, by-check, long, few, short, wrote}
 use Rattle.terms.specs.Answer.{countAnswer}
 use native.Mathlib.Omega.{arith}
-use mathlib.Core.Path.{refl, sym, ap, _∙_}
+use mathlib.Core.Path.{sym, ap, _∙_}
 use denote.Ref.{now}
 use borrow.Author.Needs.{needs}
 use Rattle.stack_write.proofs.write.Statement.{statement}
 use Rattle.stack_write.proofs.write.Tie as tie
 
 returns : tie.Need-returns
-returns c = other-widths _ _ _ _ _ refl (c .if1 .taken)
+returns c = other-widths _ _ _ _ (c .if1 .taken)
 
 returns-2 : tie.Need-returns-2
-returns-2 c = other-gaps _ _ _ _ _ refl (c .before .if1 .left) (c .if2 .taken)
+returns-2 c = other-gaps _ _ _ _ (c .before .if1 .left) (c .if2 .taken)
 
 check-lists-requires : tie.Need-check-lists-requires
 check-lists-requires c κs = search needs
@@ -31,7 +31,7 @@ add-if3 : tie.Need-add-if3
 add-if3 c = omega (arith, few (now (c .before .before .before .before .before .before .before .before .before .before .args .heights)) (now (c .before .before .before .before .before .before .before .before .before .before .args .widths)) (now (c .before .before .before .before .before .before .before .before .before .before .args .gaps)) (now (c .before .before .before .before .before .before .before .before .before .before .args .out)) (record { widths-long = c .before .before .before .before .before .if1 .left; gaps-long = c .before .before .before .before .if2 .left }) (sym (c .before .before .before .check-lists .ensures) ∙ ap countAnswer (c .before .n .given .1)))
 
 returns-3 : tie.Need-returns-3
-returns-3 c = short _ _ _ _ (record { widths-long = c .before .before .before .before .before .before .if1 .left; gaps-long = c .before .before .before .before .before .if2 .left }) (sym (c .before .before .before .before .check-lists .ensures) ∙ ap countAnswer (c .before .before .n .given .1)) _ refl (c .if3 .taken)
+returns-3 c = short _ _ _ _ (record { widths-long = c .before .before .before .before .before .before .if1 .left; gaps-long = c .before .before .before .before .before .if2 .left }) (sym (c .before .before .before .before .check-lists .ensures) ∙ ap countAnswer (c .before .before .n .given .1)) (c .if3 .taken)
 
 cast-put-header : tie.Need-cast-put-header
 cast-put-header c = omega (arith, few (now (c .before .before .before .before .before .before .before .before .before .before .before .before .args .heights)) (now (c .before .before .before .before .before .before .before .before .before .before .before .before .args .widths)) (now (c .before .before .before .before .before .before .before .before .before .before .before .before .args .gaps)) (now (c .before .before .before .before .before .before .before .before .before .before .before .before .args .out)) (record { widths-long = c .before .before .before .before .before .before .before .if1 .left; gaps-long = c .before .before .before .before .before .before .if2 .left }) (sym (c .before .before .before .before .before .check-lists .ensures) ∙ ap countAnswer (c .before .before .before .n .given .1)))
@@ -61,7 +61,7 @@ add-t14 : tie.Need-add-t14
 add-t14 c = search needs
 
 returns-4 : tie.Need-returns-4
-returns-4 c = by-check _ _ _ _ (record { widths-long = c .before .before .before .before .before .if1 .left; gaps-long = c .before .before .before .before .if2 .left }) _ _ refl (sym (c .before .before .before .check-lists .ensures) ∙ ap countAnswer (c .before .k .given .1))
+returns-4 c = by-check _ _ _ _ (record { widths-long = c .before .before .before .before .before .if1 .left; gaps-long = c .before .before .before .before .if2 .left }) _ (sym (c .before .before .before .check-lists .ensures) ∙ ap countAnswer (c .before .k .given .1))
 
 same-length : tie.Need-same-length
 same-length c = search needs

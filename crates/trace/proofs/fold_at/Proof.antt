@@ -11,13 +11,13 @@ enum-told-2 : tie.Need-enum-told-2
 enum-told-2 c = search needs
 
 fill-requires : tie.Need-fill-requires
-fill-requires c κs = fill-asks _ _ (c .before .before .before .before .before .before .before .args .cap) _ _ _ _ (c .before .before .before .before .before .before .before .pre) (c .before .enum-told2 .given .1)
+fill-requires c κs = fill-asks _ _ (c .before .before .before .before .before .before .before .args .cap .0) _ _ _ _ (c .before .before .before .before .before .before .before .pre) (c .before .enum-told2 .given .1)
 
 fold-point-requires : tie.Need-fold-point-requires
 fold-point-requires c κs = point-asks _ _ _ _ _ _ _ (c .before .before .before .before .before .before .before .before .before .before .before .pre) (c .before .before .before .before .before .enum-told2 .given .1) _ (c .before .before .before .fill .ensures) (c .before .before .before .fill .kept .1 .1 .0)
 
 returns : tie.Need-returns
-returns c = apart-found _ _ (c .before .before .before .before .before .before .args .cap) _ _ _ _ (c .before .before .before .before .before .before .pre) (c .enum-told .given .1)
+returns c = apart-found _ _ (c .before .before .before .before .before .before .args .cap .0) _ _ _ _ (c .before .before .before .before .before .before .pre) (c .enum-told .given .1)
 
 same-length : tie.Need-same-length
 same-length c = search needs

@@ -1,0 +1,24 @@
+use borrow.Author.Needs.{needs}
+use borrow.Author.Needs.{needs}
+use Rattle.stack_folds.proofs.folds_choose.Statement.{statement}
+use Rattle.stack_folds.proofs.folds_choose.Tie as tie
+
+kind-of-requires : tie.Need-kind-of-requires
+kind-of-requires c κs = search needs
+
+measure-requires : tie.Need-measure-requires
+measure-requires c κs = search needs
+
+measure-requires-2 : tie.Need-measure-requires-2
+measure-requires-2 c κs = search needs
+
+choice-requires : tie.Need-choice-requires
+choice-requires c κs = search needs
+
+returns : tie.Need-returns
+returns c = rw (c .choice .ensures, c .before .before .measure .ensures, c .before .measure2 .ensures, c .before .before .before .kind-of .ensures)
+
+pub folds-choose-spec : {M : Type 1} → statement M
+folds-choose-spec =
+    tie.close
+    (tie.spec kind-of-requires measure-requires measure-requires-2 choice-requires returns)
