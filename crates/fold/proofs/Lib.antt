@@ -3,3 +3,4 @@ pub mod Held
 pub mod Planning
 pub mod Limits
 pub mod Answering
+pub mod OneAnswer

@@ -13,6 +13,7 @@ use Rattle.terms.specs.Component.{componentsIn}
 use Rattle.stack.specs.File.{checkOf}
 use Rattle.stack.proofs.Reading.{Held}
 use Rattle.folding.specs.declared.Outline.{Outline}
+use Rattle.folding.specs.Best.{Listing}
 use Rattle.folding.proofs.Measuring.{components-held}
 use Rattle.folding.proofs.Listings.{one-listing, few-listed}
 use Rattle.group.specs.Group.{none}
@@ -166,3 +167,11 @@ module _ (kind : Kind) (out work : List ℕ) where
 
 pub list-asks : (kind : Kind) (n : ℕ) (hs ws gs work : List ℕ) → FirstLists kind n hs ws gs → 8192 ≤ length work → Plannable kind (take n hs) (take n ws) (take n gs) work
 list-asks kind n hs ws gs work f h = record { lists = f .lists; some = omega (arith, length-take-le n hs (f .heights-long), f .some); room = h }
+
+-- A known table leaves the call no choice.
+module _ (kind : Kind) (cs : List Component) (os : List Outline) (l : Listing kind cs os) (out work out′ work′ : List ℕ) (answer : Answer ℕ) where
+  tabled-known : Tabled kind cs out out′ answer → (answer ≡ tableAnswer (length out) os) × (out′ ≡ tableInto os out)
+  tabled-known t = let e : os ≡ t .listed = t .only os l in rw e (t .answers, t .holds)
+
+  pub the-table : (valid : Answer (List Component)) → valid ≡ result cs → TableAnswered kind out work out′ work′ answer valid → (answer ≡ tableAnswer (length out) os) × (out′ ≡ tableInto os out)
+  the-table valid e t = tabled-known (rw e at t)

@@ -8,6 +8,9 @@ use Rattle.terms.specs.declared.Kind.{Kind}
 use Rattle.terms.specs.declared.Kind.the-variants.{Apart, Nested}
 use Rattle.folding.specs.declared.Placement.{Placement}
 use Rattle.folding.specs.Placement.{placedOf}
+use Rattle.terms.specs.Component.{every, stackOf, tabulate}
+use Rattle.stack.specs.File.{headerOf}
+use Rattle.folding.specs.Calls.{measureIn, chooseOf}
 use Rattle.folding.specs.Legal.{Legal, each, eachPair, legal}
 use Rattle.folding.specs.Outline.{groupsOf, topOf, rowSum, greatest, lastGap, folded, foldGap, layoutWidth, layoutHeight, outlineOf}
 
@@ -174,3 +177,45 @@ apart-right = refl
 nested-right : legal Nested (placedOf stack-C (p 0 0 0 ∷ p 0 1 0 ∷ [])) ≡ true
 unfolding placedOf legal each eachPair
 nested-right = refl
+
+-- Without a fold both gaps add: the one before a later group too. Group 1 is 1 + 4 + 6 rows high.
+gap-before-and-behind : Folds Apart (c 1 1 4 ∷ c 1 1 6 ∷ c 1 1 0 ∷ []) (p 0 0 0 ∷ p 1 0 0 ∷ p 2 0 0 ∷ []) 3 11
+unfolding placedOf legal each eachPair groupsOf topOf rowSum greatest lastGap folded foldGap layoutWidth layoutHeight
+gap-before-and-behind = record { is-legal = record { whole = refl; rules = refl }; has = refl }
+
+-- With a fold the larger of the two gaps counts, here the one before the group: it is 3 + 7 + 2 rows high, with 2 the gap at its fold.
+larger-gap-before : Folds Nested (c 2 1 7 ∷ c 3 1 2 ∷ c 1 1 5 ∷ c 1 1 0 ∷ []) (p 0 0 0 ∷ p 1 0 0 ∷ p 1 1 0 ∷ p 2 0 0 ∷ []) 4 12
+unfolding placedOf legal each eachPair groupsOf topOf rowSum greatest lastGap folded foldGap layoutWidth layoutHeight
+larger-gap-before = record { is-legal = record { whole = refl; rules = refl }; has = refl }
+
+-- And here the one behind it.
+larger-gap-behind : Folds Nested (c 2 1 5 ∷ c 3 1 2 ∷ c 1 1 7 ∷ c 1 1 0 ∷ []) (p 0 0 0 ∷ p 1 0 0 ∷ p 1 1 0 ∷ p 2 0 0 ∷ []) 4 12
+unfolding placedOf legal each eachPair groupsOf topOf rowSum greatest lastGap folded foldGap layoutWidth layoutHeight
+larger-gap-behind = record { is-legal = record { whole = refl; rules = refl }; has = refl }
+
+-- Two foldings with the same outline, of the stack 1/1, 2/1: choosing hands back the first, whichever it is.
+tied : List ℕ
+tied = 83 ∷ 84 ∷ 75 ∷ 1 ∷ 0 ∷ 2 ∷ 0 ∷ 1 ∷ 0 ∷ 1 ∷ 0 ∷ 0 ∷ 0 ∷ 2 ∷ 0 ∷ 1 ∷ 0 ∷ 0 ∷ 0 ∷ []
+
+low : List ℕ
+low = 0 ∷ 0 ∷ 0 ∷ 0 ∷ 1 ∷ 0 ∷ []
+
+high : List ℕ
+high = 0 ∷ 0 ∷ 1 ∷ 0 ∷ 1 ∷ 0 ∷ []
+
+tie-low : chooseOf Nested tied low high ≡ low
+unfolding tied low high headerOf stackOf every tabulate measureIn placedOf legal each eachPair groupsOf topOf rowSum greatest lastGap folded foldGap layoutWidth layoutHeight
+tie-low = refl
+
+tie-high : chooseOf Nested tied high low ≡ high
+unfolding tied low high headerOf stackOf every tabulate measureIn placedOf legal each eachPair groupsOf topOf rowSum greatest lastGap folded foldGap layoutWidth layoutHeight
+tie-high = refl
+
+-- A narrower one wins, and then a lower one.
+narrower-wins : chooseOf Nested tied low (0 ∷ 0 ∷ 2 ∷ 0 ∷ 1 ∷ 0 ∷ []) ≡ 0 ∷ 0 ∷ 2 ∷ 0 ∷ 1 ∷ 0 ∷ []
+unfolding tied low headerOf stackOf every tabulate measureIn placedOf legal each eachPair groupsOf topOf rowSum greatest lastGap folded foldGap layoutWidth layoutHeight
+narrower-wins = refl
+
+lower-wins : chooseOf Nested tied (0 ∷ 0 ∷ 0 ∷ 0 ∷ 1 ∷ 2 ∷ []) (0 ∷ 0 ∷ 0 ∷ 0 ∷ 1 ∷ 1 ∷ []) ≡ 0 ∷ 0 ∷ 0 ∷ 0 ∷ 1 ∷ 1 ∷ []
+unfolding tied headerOf stackOf every tabulate measureIn placedOf legal each eachPair groupsOf topOf rowSum greatest lastGap folded foldGap layoutWidth layoutHeight
+lower-wins = refl

@@ -1,7 +1,9 @@
--- The known stacks (document 01, "Known stacks"): one list of lines, each a claim about all legal foldings of its stack and kind, or about a refusal.
+-- The known stacks (document 01, "Known stacks"): one list of lines, each a claim about all legal foldings of its stack and kind
+-- and about what the calls answer, or about a refusal.
 use Prim.Native.Nat.{ℕ, zero, suc}
 use mathlib.Core.Path.{_≡_}
 use mathlib.Core.List.{List, [], _∷_}
+use lib.ListN.{length}
 use Rattle.terms.specs.declared.Component.{Component}
 use Rattle.terms.specs.declared.Kind.{Kind}
 use Rattle.terms.specs.declared.Kind.the-variants.{Apart, Nested}
@@ -9,17 +11,22 @@ use Rattle.terms.specs.Answer.{Answer, refusal, result}
 use Rattle.terms.specs.Component.{mostOf, stackOf, countOf}
 use Rattle.folding.specs.declared.Placement.{Placement}
 use Rattle.folding.specs.declared.Outline.{Outline}
-use Rattle.fold.specs.Calls.{foldChecks}
 use Rattle.folding.specs.Best.{BestForHeight, BestForWidth, UnmeetableHeight, UnmeetableWidth, Listing}
+use Rattle.fold.specs.Calls.{workCheck, foldChecks, validOf, ToHeight, ToWidth}
+use Rattle.fold_table.specs.Calls.{tableValidOf, tableAnswer, tableInto, TableOf}
 
+-- `size`: the refusals of a list of components. `lent`: those of a fold call's limit, placement buffer and work buffer, for one
+-- component. `table-work`: that of the table's work buffer. `table-room`: that of its pairs, for a table of these outlines.
 pub data Line : Type 0 where
   to-height : Kind → List Component → ℕ → Answer Outline → Line
   to-width : Kind → List Component → ℕ → Answer Outline → Line
   table : Kind → List Component → List Outline → Line
   size : Kind → List Component → Answer ℕ → Line
-  at-limit : ℕ → Answer ℕ → Line
+  lent : ℕ → ℕ → ℕ → Answer ℕ → Line
+  table-work : ℕ → Answer ℕ → Line
+  table-room : ℕ → List Outline → Answer ℕ → Line
 
--- "refused with 9", or the best folding's outline; the table; the refusals of a list of components; those of a limit, for one component and buffers just long enough.
+-- "refused with 9", or the best folding's outline; the table; the refusals.
 abbrev pub Holds : Line → Type 0
 Holds (to-height kind cs limit (refusal k)) = (k ≡ 9) × UnmeetableHeight kind cs limit
 Holds (to-height kind cs limit (result o)) = (ps : List Placement) × BestForHeight kind cs limit ps o
@@ -27,11 +34,28 @@ Holds (to-width kind cs limit (refusal k)) = (k ≡ 9) × UnmeetableWidth kind c
 Holds (to-width kind cs limit (result o)) = (ps : List Placement) × BestForWidth kind cs limit ps o
 Holds (table kind cs os) = Listing kind cs os
 Holds (size kind cs a) = countOf (stackOf (mostOf kind) cs) ≡ a
-Holds (at-limit x a) = foldChecks x 3 8192 1 1 ≡ a
+Holds (lent limit out work a) = foldChecks limit out work 1 1 ≡ a
+Holds (table-work n a) = workCheck n 1 ≡ a
+Holds (table-room n os a) = tableAnswer n os ≡ a
+
+-- What the calls answer, and the table writes, for every file that reads to the stack, whatever the lent buffers hold: no other
+-- answer keeps their promise.
+abbrev pub Answers : Line → Type 0
+Answers (to-height kind cs limit a) = (file out work out′ work′ : List ℕ) (answer : Answer Outline)
+    → validOf kind file limit out work ≡ result cs → ToHeight kind file limit out work answer out′ work′ → answer ≡ a
+Answers (to-width kind cs limit a) = (file out work out′ work′ : List ℕ) (answer : Answer Outline)
+    → validOf kind file limit out work ≡ result cs → ToWidth kind file limit out work answer out′ work′ → answer ≡ a
+Answers (table kind cs os) = (file out work out′ work′ : List ℕ) (answer : Answer ℕ)
+    → tableValidOf kind file work ≡ result cs → TableOf kind file out work answer out′ work′
+    → (answer ≡ tableAnswer (length out) os) × (out′ ≡ tableInto os out)
+Answers (size kind cs a) = Unit {0}
+Answers (lent limit out work a) = Unit {0}
+Answers (table-work n a) = Unit {0}
+Answers (table-room n os a) = Unit {0}
 
 abbrev pub AllHold : List Line → Type 0
 AllHold [] = Unit {0}
-AllHold (l ∷ ls) = Holds l × AllHold ls
+AllHold (l ∷ ls) = Holds l × Answers l × AllHold ls
 
 -- Components are height/width, with a gap.
 abbrev pub c : ℕ → ℕ → ℕ → Component
@@ -88,6 +112,15 @@ lines =
     ∷ size Apart (units 257) (refusal 4)
     ∷ size Apart (c 4000 1 0 ∷ []) (result 1)
     ∷ size Apart (c 4001 1 0 ∷ []) (refusal 5)
-    ∷ at-limit 2000000 (result 1)
-    ∷ at-limit 2000001 (refusal 7)
+    ∷ lent 2000000 3 8192 (result 1)
+    ∷ lent 2000001 3 8192 (refusal 7)
+    ∷ lent 1 3 8192 (result 1)
+    ∷ lent 0 3 8192 (refusal 7)
+    ∷ lent 0 2 8191 (refusal 7)
+    ∷ lent 1 2 8192 (refusal 8)
+    ∷ lent 1 3 8191 (refusal 8)
+    ∷ table-work 8192 (result 1)
+    ∷ table-work 8191 (refusal 8)
+    ∷ table-room 6 (o 3 4 ∷ o 6 2 ∷ o 8 1 ∷ []) (result 3)
+    ∷ table-room 5 (o 3 4 ∷ o 6 2 ∷ o 8 1 ∷ []) (refusal 8)
     ∷ []
