@@ -1,8 +1,13 @@
-// Measures foldings and chooses between them at the rules' edges, and writes what each call answers, a line a case.
+// Measures foldings, flat and as structs, and chooses between them at the rules' edges, and writes what each call answers, a
+// line a case.
 use folding::Measured;
+use folding::Placement;
 use terms::Kind;
+ghost use mathlib.Core.Path.{_≡_};
 ghost use Prim.Native.Nat.{_+_, _*_, _≤_, _<_};
 ghost use lib.ListN.{length};
+ghost use Rattle.folding.specs.Calls.{measuredAnswer, measureOf};
+ghost use Rattle.folding.specs.Placement.{flatOf};
 
 fn say(text: &[u8]) {
     io::write_all(1, text);
@@ -24,85 +29,32 @@ fn say_measured(a: Measured) {
             say_number(k.number());
         }
     }
+}
+
+fn say_line(a: Measured) {
+    say_measured(a);
     say(b"\n");
 }
 
 // Heights 3, 1, 2, 4, widths 1, gaps 0.
-fn plain() -> [u8; 31] {
-    [
-        83,
-        84,
-        75,
-        1,
-        0,
-        4,
-        0,
-        3,
-        0,
-        1,
-        0,
-        0,
-        0,
-        1,
-        0,
-        1,
-        0,
-        0,
-        0,
-        2,
-        0,
-        1,
-        0,
-        0,
-        0,
-        4,
-        0,
-        1,
-        0,
-        0,
-        0,
-    ]
-}
+const PLAIN: [u8; 31] =
+    *b"STK\x01\x00\x04\x00\x03\x00\x01\x00\x00\x00\x01\x00\x01\x00\x00\x00\x02\x00\x01\x00\x00\x00\x04\x00\x01\x00\x00\x00";
 
 // Heights 2, 3, 1, widths 4, 5, 6, gaps 7, 8, 0.
-fn gapped() -> [u8; 25] {
-    [
-        83,
-        84,
-        75,
-        1,
-        0,
-        3,
-        0,
-        2,
-        0,
-        4,
-        0,
-        7,
-        0,
-        3,
-        0,
-        5,
-        0,
-        8,
-        0,
-        1,
-        0,
-        6,
-        0,
-        0,
-        0,
-    ]
-}
+const GAPPED: [u8; 25] =
+    *b"STK\x01\x00\x03\x00\x02\x00\x04\x00\x07\x00\x03\x00\x05\x00\x08\x00\x01\x00\x06\x00\x00\x00";
+
+// Heights 2, 3, widths 4, 5, gaps 7, 0.
+const SHORT: [u8; 19] = *b"STK\x01\x00\x02\x00\x02\x00\x04\x00\x07\x00\x03\x00\x05\x00\x00\x00";
 
 fn plain_case(label: &[u8], kind: Kind, flat: &[u32]) {
     say(label);
-    say_measured(folding::measure(&plain(), kind, flat));
+    say_line(folding::measure(&PLAIN, kind, flat));
 }
 
 fn gapped_case(label: &[u8], kind: Kind, flat: &[u32]) {
     say(label);
-    say_measured(folding::measure(&gapped(), kind, flat));
+    say_line(folding::measure(&GAPPED, kind, flat));
 }
 
 fn range_cases() {
@@ -278,7 +230,7 @@ fn nested_64() {
     let mut flat = [0u32; 192];
     number_groups(&mut flat, 64);
     say(b"64 nested");
-    say_measured(folding::measure(&file, Kind::Nested, &flat));
+    say_line(folding::measure(&file, Kind::Nested, &flat));
 }
 
 fn apart_256() {
@@ -289,9 +241,9 @@ fn apart_256() {
     let mut flat = [0u32; 768];
     number_groups(&mut flat, 256);
     say(b"256 apart");
-    say_measured(folding::measure(&file, Kind::Apart, &flat));
+    say_line(folding::measure(&file, Kind::Apart, &flat));
     say(b"256 nested");
-    say_measured(folding::measure(&file, Kind::Nested, &flat));
+    say_line(folding::measure(&file, Kind::Nested, &flat));
 }
 
 // The size is refused before a component is looked at.
@@ -304,7 +256,7 @@ fn too_many() {
     file[5] = 1;
     file[6] = 1;
     say(b"257 apart");
-    say_measured(folding::measure(&file, Kind::Apart, &[]));
+    say_line(folding::measure(&file, Kind::Apart, &[]));
 }
 
 fn nested_65() {
@@ -315,9 +267,9 @@ fn nested_65() {
     let mut flat = [0u32; 195];
     number_groups(&mut flat, 65);
     say(b"65 nested");
-    say_measured(folding::measure(&file, Kind::Nested, &flat));
+    say_line(folding::measure(&file, Kind::Nested, &flat));
     say(b"65 apart");
-    say_measured(folding::measure(&file, Kind::Apart, &flat));
+    say_line(folding::measure(&file, Kind::Apart, &flat));
 }
 
 fn say_list(list: &[u32]) {
@@ -331,7 +283,7 @@ fn say_list(list: &[u32]) {
 
 fn choose_case<'a>(label: &[u8], kind: Kind, first: &'a [u32], second: &'a [u32]) {
     say(label);
-    say_list(folding::choose(&gapped(), kind, first, second));
+    say_list(folding::choose(&GAPPED, kind, first, second));
 }
 
 fn choose_cases() {
@@ -400,6 +352,132 @@ fn refused_choose_cases() {
     );
 }
 
+// No other function here has placements behind a reference.
+fn lend(file: &[u8], kind: Kind, run: [Placement; 3]) -> Measured
+    ensures { λ r. ⌜ measuredAnswer r ≡ measureOf kind (now (file .entry)) (flatOf run) ⌝ }
+{
+    folding_structs::measure_placements(file, kind, &run)
+}
+
+fn place(group: u32, side: u32, start: u32) -> Placement {
+    Placement {
+        group: group,
+        side: side,
+        start: start,
+    }
+}
+
+// The same folding through the entry that takes placements and through the flat one.
+fn structs_case(label: &[u8], file: &[u8], kind: Kind, a: Placement, b: Placement, c: Placement) {
+    say(b"structs, ");
+    say(label);
+    say_measured(lend(file, kind, [a, b, c]));
+    say(b",");
+    let flat = [
+        a.group,
+        a.side,
+        a.start,
+        b.group,
+        b.side,
+        b.start,
+        c.group,
+        c.side,
+        c.start,
+    ];
+    say_measured(folding::measure(file, kind, &flat));
+    say(b"\n");
+}
+
+fn legal_structs() {
+    structs_case(
+        b"one group",
+        &GAPPED,
+        Kind::Apart,
+        place(0, 0, 4),
+        place(0, 0, 1),
+        place(0, 0, 0),
+    );
+    structs_case(
+        b"three groups",
+        &GAPPED,
+        Kind::Apart,
+        place(0, 0, 0),
+        place(1, 0, 0),
+        place(2, 0, 0),
+    );
+    structs_case(
+        b"fold after 1",
+        &GAPPED,
+        Kind::Nested,
+        place(0, 0, 0),
+        place(0, 1, 0),
+        place(0, 1, 3),
+    );
+    structs_case(
+        b"fold in group 1",
+        &GAPPED,
+        Kind::Nested,
+        place(0, 0, 0),
+        place(1, 0, 0),
+        place(1, 1, 0),
+    );
+}
+
+fn refused_structs() {
+    structs_case(
+        b"right side",
+        &GAPPED,
+        Kind::Apart,
+        place(0, 0, 0),
+        place(0, 1, 0),
+        place(0, 1, 3),
+    );
+    structs_case(
+        b"overlap",
+        &GAPPED,
+        Kind::Apart,
+        place(0, 0, 3),
+        place(0, 0, 1),
+        place(0, 0, 0),
+    );
+    structs_case(
+        b"side 4294967295",
+        &GAPPED,
+        Kind::Nested,
+        place(0, 0, 4),
+        place(0, 0, 1),
+        place(0, 4294967295, 0),
+    );
+    structs_case(
+        b"letters",
+        b"STAK123",
+        Kind::Apart,
+        place(0, 0, 4),
+        place(0, 0, 1),
+        place(0, 0, 0),
+    );
+}
+
+// As many placements as components are asked for, and no more are read.
+fn count_structs() {
+    structs_case(
+        b"four components",
+        &PLAIN,
+        Kind::Apart,
+        place(0, 0, 0),
+        place(1, 0, 0),
+        place(2, 0, 0),
+    );
+    structs_case(
+        b"two components",
+        &SHORT,
+        Kind::Apart,
+        place(0, 0, 3),
+        place(0, 0, 0),
+        place(7, 7, 7),
+    );
+}
+
 fn main() {
     range_cases();
     order_cases();
@@ -413,4 +491,7 @@ fn main() {
     too_many();
     choose_cases();
     refused_choose_cases();
+    legal_structs();
+    refused_structs();
+    count_structs();
 }

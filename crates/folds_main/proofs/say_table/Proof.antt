@@ -1,9 +1,9 @@
-use Rattle.folds.proofs.Fits.{fits}
+use Rattle.folds_main.proofs.Fits.{fits}
 use denote.Ref.{now}
 use borrow.Author.Needs.{needs}
 use borrow.Author.Needs.{needs}
-use Rattle.folds.proofs.say_table.Statement.{statement}
-use Rattle.folds.proofs.say_table.Tie as tie
+use Rattle.folds_main.proofs.say_table.Statement.{statement}
+use Rattle.folds_main.proofs.say_table.Tie as tie
 
 table-requires : tie.Need-table-requires
 table-requires c κs = search needs

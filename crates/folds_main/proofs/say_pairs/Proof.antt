@@ -1,7 +1,7 @@
 use Prim.Native.Nat.{_-_, _≤_}
 use borrow.Author.Needs.{needs}
-use Rattle.folds.proofs.say_pairs.Statement.{statement}
-use Rattle.folds.proofs.say_pairs.Tie as tie
+use Rattle.folds_main.proofs.say_pairs.Statement.{statement}
+use Rattle.folds_main.proofs.say_pairs.Tie as tie
 
 abbrev Inv-loop : tie.InvT-loop
 Inv-loop letter pairs n i₀ t5 i = i ≤ n

@@ -62,11 +62,11 @@ use Rattle.folding_structs.proofs.measure_placements as g
 use Rattle.folding_structs.proofs.measure_placements.Symbol as g-def
 use Rattle.folding_structs.proofs.measure_placements.Symbol.{name as #folding-structs·measure-placements}
 use Rattle.folding_structs.proofs.measure_placements.Met as g-thm
-use Rattle.folding_structs_run.proofs.lend.Key.{name as #folding-structs-run·lend}
-use Rattle.folding_structs_run.proofs.lend as f
-use Rattle.folding_structs_run.proofs.lend.Statement as stated
-use Rattle.folding_structs_run.proofs.lend.Code as code
-use Rattle.folding_structs_run.proofs.lend.Code.Mir as mir
+use Rattle.folding_run.proofs.lend.Key.{name as #folding-structs-run·lend}
+use Rattle.folding_run.proofs.lend as f
+use Rattle.folding_run.proofs.lend.Statement as stated
+use Rattle.folding_run.proofs.lend.Code as code
+use Rattle.folding_run.proofs.lend.Code.Mir as mir
 
 abbrev Three : RattleType
 Three = Array T.the-row 3
