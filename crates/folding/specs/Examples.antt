@@ -14,21 +14,21 @@ use Rattle.folding.specs.Calls.{measureIn, chooseOf}
 use Rattle.folding.specs.Legal.{Legal, each, eachPair, legal}
 use Rattle.folding.specs.Outline.{groupsOf, topOf, rowSum, greatest, lastGap, folded, foldGap, layoutWidth, layoutHeight, outlineOf}
 
-abbrev c : ℕ → ℕ → ℕ → Component
+abbrev pub c : ℕ → ℕ → ℕ → Component
 c h w g = record { height = record { 0 = h }; width = record { 0 = w }; gap = record { 0 = g } }
 
-abbrev p : ℕ → ℕ → ℕ → Placement
+abbrev pub p : ℕ → ℕ → ℕ → Placement
 p group side start = record { group = group; side = side; start = start }
 
 -- A legal folding of the stack with this width and height.
-record Folds (kind : Kind) (cs : List Component) (ps : List Placement) (width height : ℕ) : Type 0 where
-  is-legal : Legal kind cs ps
-  has : outlineOf cs ps ≡ record { width = record { 0 = width }; height = record { 0 = height } }
+pub record Folds (kind : Kind) (cs : List Component) (ps : List Placement) (width height : ℕ) : Type 0 where
+  pub is-legal : Legal kind cs ps
+  pub has : outlineOf cs ps ≡ record { width = record { 0 = width }; height = record { 0 = height } }
 
-abbrev stack-A : List Component
+abbrev pub stack-A : List Component
 stack-A = c 3 2 0 ∷ []
 
-abbrev stack-B : List Component
+abbrev pub stack-B : List Component
 stack-B = c 3 1 0 ∷ c 1 1 0 ∷ c 2 1 0 ∷ c 4 1 0 ∷ []
 
 abbrev stack-C : List Component
@@ -43,7 +43,7 @@ stack-E = c 1 3 0 ∷ c 1 1 0 ∷ c 1 1 0 ∷ c 1 3 0 ∷ []
 abbrev stack-F : List Component
 stack-F = c 2 5 0 ∷ c 1 4 0 ∷ c 1 1 0 ∷ c 1 4 0 ∷ c 1 1 0 ∷ []
 
-A-apart-2-3 : Folds Apart stack-A (p 0 0 0 ∷ []) 2 3
+pub A-apart-2-3 : Folds Apart stack-A (p 0 0 0 ∷ []) 2 3
 unfolding placedOf legal each eachPair groupsOf topOf rowSum greatest lastGap folded foldGap layoutWidth layoutHeight
 A-apart-2-3 = record { is-legal = record { whole = refl; rules = refl }; has = refl }
 
@@ -51,7 +51,7 @@ A-nested-2-3 : Folds Nested stack-A (p 0 0 0 ∷ []) 2 3
 unfolding placedOf legal each eachPair groupsOf topOf rowSum greatest lastGap folded foldGap layoutWidth layoutHeight
 A-nested-2-3 = record { is-legal = record { whole = refl; rules = refl }; has = refl }
 
-B-apart-1-10 : Folds Apart stack-B (p 0 0 7 ∷ p 0 0 6 ∷ p 0 0 4 ∷ p 0 0 0 ∷ []) 1 10
+pub B-apart-1-10 : Folds Apart stack-B (p 0 0 7 ∷ p 0 0 6 ∷ p 0 0 4 ∷ p 0 0 0 ∷ []) 1 10
 unfolding placedOf legal each eachPair groupsOf topOf rowSum greatest lastGap folded foldGap layoutWidth layoutHeight
 B-apart-1-10 = record { is-legal = record { whole = refl; rules = refl }; has = refl }
 
@@ -59,7 +59,7 @@ B-apart-2-6 : Folds Apart stack-B (p 0 0 1 ∷ p 0 0 0 ∷ p 1 0 4 ∷ p 1 0 0 �
 unfolding placedOf legal each eachPair groupsOf topOf rowSum greatest lastGap folded foldGap layoutWidth layoutHeight
 B-apart-2-6 = record { is-legal = record { whole = refl; rules = refl }; has = refl }
 
-B-apart-3-4 : Folds Apart stack-B (p 0 0 0 ∷ p 1 0 2 ∷ p 1 0 0 ∷ p 2 0 0 ∷ []) 3 4
+pub B-apart-3-4 : Folds Apart stack-B (p 0 0 0 ∷ p 1 0 2 ∷ p 1 0 0 ∷ p 2 0 0 ∷ []) 3 4
 unfolding placedOf legal each eachPair groupsOf topOf rowSum greatest lastGap folded foldGap layoutWidth layoutHeight
 B-apart-3-4 = record { is-legal = record { whole = refl; rules = refl }; has = refl }
 

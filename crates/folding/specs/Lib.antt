@@ -5,3 +5,4 @@ pub mod Best
 pub mod Calls
 pub mod Inner
 mod Examples
+mod Rivals

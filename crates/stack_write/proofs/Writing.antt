@@ -12,7 +12,7 @@ use Rattle.terms.specs.declared.Component.{Component}
 use Rattle.terms.specs.declared.Kind.the-variants.{Apart}
 use Rattle.terms.specs.Answer.{refusal, result}
 use Rattle.terms.specs.Component.{tabulate, stackOf, mostOf, countOf, componentIn, componentsIn}
-use Rattle.stack_write.specs.File.{low, high, bytesOf, fileOf}
+use Rattle.stack_write.specs.File.{bytesOf, headed, fileOf}
 use Rattle.stack_write.specs.Call.{writeOf, Wrote}
 use Rattle.stack_write.specs.Inner.{Lists}
 use Rattle.terms.proofs.Tabulate.{tabulate-length}
@@ -50,7 +50,7 @@ module _ (g : ℕ → Component) (old : List ℕ) where
 
 -- The header, and the components' bytes behind it.
 whole : (cs : List Component) (old p last : List ℕ) (n : ℕ) → length cs ≡ n → 7 ≤ length p
-    → p ≡ 83 ∷ 84 ∷ 75 ∷ 1 ∷ 0 ∷ low n ∷ high n ∷ drop 7 old
+    → p ≡ headed n (drop 7 old)
     → last ≡ bytesOf cs ++ drop (6 * n) (take (length p - 7) (drop 7 p))
     → putMid 7 (length p - 7) p last ≡ fileOf cs ++ drop (7 + 6 * n) old
 whole cs old p last n m d e l =
@@ -91,7 +91,7 @@ module _ (heights widths gaps out : List ℕ) where
       short h = refused 8 (rw (eq-eqb _ _ (s .widths-long), eq-eqb _ _ (s .gaps-long), is, counts, lt-ltb _ _ h))
 
       pub wrote : (p last : List ℕ) → 7 + 6 * n ≤ length out → length p ≡ length out
-          → p ≡ 83 ∷ 84 ∷ 75 ∷ 1 ∷ 0 ∷ low n ∷ high n ∷ drop 7 out
+          → p ≡ headed n (drop 7 out)
           → last ≡ bytesOf (componentsIn heights widths gaps) ++ drop (6 * length heights) (take (length p - 7) (drop 7 p))
           → Wrote heights widths gaps out (result (7 + 6 * n)) (putMid 7 (length p - 7) p last)
       wrote p last h m k l =

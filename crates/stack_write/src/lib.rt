@@ -7,7 +7,7 @@ ghost use Rattle.terms.specs.Numbers.{mostApart};
 ghost use Rattle.terms.specs.Answer.{countAnswer};
 ghost use Rattle.terms.specs.Component.{mostOf, ruleOf, every, stackOf, countOf, componentIn, componentsIn};
 ghost use Rattle.terms.specs.declared.Kind.the-variants.{Apart};
-ghost use Rattle.stack_write.specs.File.{low, high, bytesOf};
+ghost use Rattle.stack_write.specs.File.{low, high, bytesOf, headed};
 ghost use Rattle.stack_write.specs.Call.{Wrote};
 ghost use Rattle.stack_write.specs.Inner.{InLists, Lists, Writable, bodyInto};
 use terms::Component;
@@ -92,7 +92,7 @@ fn high_byte(x: u32) -> u8
 
 fn put_header(out: &mut [u8], n: u32)
     requires { ⌜ 7 ≤ length (now out) ⌝ }
-    ensures { λ _. ⌜ now (out .exit) ≡ 83 ∷ 84 ∷ 75 ∷ 1 ∷ 0 ∷ low n ∷ high n ∷ drop 7 (now (out .entry)) ⌝ }
+    ensures { λ _. ⌜ now (out .exit) ≡ headed n (drop 7 (now (out .entry))) ⌝ }
 {
     out[0] = b'S';
     out[1] = b'T';
