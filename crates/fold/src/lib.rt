@@ -10,8 +10,8 @@ ghost use Rattle.fold.specs.Calls.{foldChecks, Searched, ToHeight, ToWid
 ghost use Rattle.fold.specs.Inner.{FirstLists, Foldable, FirstAnswered, Written, LeastFor, Halving};
 ghost use Rattle.plan.specs.Asks.{Plannable};
 use folding::Measured;
-use folding::Outline;
 use group::NONE;
+use plan::LISTED;
 use terms::Counted;
 use terms::Kind;
 use terms::LEAST_WORK;
@@ -54,17 +54,15 @@ fn write_best(
     ensures { λ r. ⌜ Written kind (componentsIn (now (h .entry)) (now (w .entry)) (now (g .entry))) (limit .0)
         (now (out .entry)) (now (out .exit)) (measuredAnswer r) ⌝ }
 {
-    let best = plan::layouts_for(kind, limit, h, w, g, work);
-    let widths = best.widths;
-    let ends = best.ends;
-    if NONE <= widths[0] {
+    let mut wide = [0u32; LISTED];
+    let mut high = [0u32; LISTED];
+    let mut ends = [0u32; LISTED];
+    let o = plan::plan(kind, limit, h, w, g, &mut wide, &mut high, &mut ends, work);
+    if NONE <= o.width.0 {
         return Measured::Refused(Refusal::Unmeetable);
     }
-    trace::trace(kind, 0, Rows(0), h, w, g, &widths, &ends, out, work);
-    Measured::Outlined(Outline {
-        width: Slices(widths[0]),
-        height: Rows(best.heights[0]),
-    })
+    trace::trace(kind, 0, Rows(0), h, w, g, &wide, &ends, out, work);
+    Measured::Outlined(o)
 }
 
 // The least height for which the best layout is at most so many slices wide, by halving below one for which it is.

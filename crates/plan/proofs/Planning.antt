@@ -13,9 +13,10 @@ use Rattle.terms.specs.Component.{componentIn, componentsIn}
 use Rattle.terms.proofs.Parts.{from}
 use Rattle.group.specs.Rows.{gap}
 use Rattle.layout.specs.Layout.{Layout, unmet, empty, layouts, layoutOf}
-use Rattle.layout.specs.Plan.{PlannedAt, Planned}
+use Rattle.layout.specs.Table.{outline}
+use Rattle.layout.specs.Plan.{PlannedAt}
 use Rattle.plan.specs.declared.Best.{Best}
-use Rattle.plan.specs.Asks.{layoutIn, Later, FirstAsks, FromAsks, PlanAsks, PlannedFrom, gapBefore}
+use Rattle.plan.specs.Asks.{layoutIn, Later, FirstAsks, FromAsks, PlanAsks, PlannedFrom, PlanDone, gapBefore}
 use Rattle.plan.proofs.Gaps.{gap-near}
 use Rattle.plan.proofs.Columns.{component-at}
 use Rattle.layout.proofs.Columns.{components-length, components-drop, lists-drop}
@@ -109,8 +110,10 @@ module _ {kind : Kind} {limit : ℕ} {hs ws gs widths₀ heights₀ ends₀ es�
 
   module _ {widths heights ends : List ℕ} {later : ℕ} (s : PlannedFrom kind limit (componentsIn hs ws gs) widths heights ends later)
       (lw : length widths ≡ length (set widths₀ (length hs) 0)) (lh : length heights ≡ length (set heights₀ (length hs) 0)) (le : length ends ≡ length (set ends₀ (length hs) 0)) where
-    pub plan-done : later ≡ 0 → Planned kind limit 0 (componentsIn hs ws gs) widths heights ends
-    plan-done e = record { at = λ j h. s .at j (omega arith) h }
+    pub plan-done : later ≡ 0 → PlanDone kind limit (componentsIn hs ws gs) widths heights ends (outline (getD widths 0 0) (getD heights 0 0))
+    plan-done e =
+        let first = s .at 0 (omega arith) (omega arith) in
+        record { planned = record { at = λ j h. s .at j (omega arith) h }; outlined = rw (first .width-is, first .height-is) }
 
     module _ (i : ℕ) (e : i + 1 ≡ later) (o : later ≤ length hs) where
       pub from-asks : (es : List ℕ) → length es ≡ length es₀ → FromAsks kind limit i hs ws gs widths heights es

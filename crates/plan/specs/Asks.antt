@@ -1,4 +1,5 @@
--- What the functions of this crate ask and promise each other. `Plannable` and `bestAt` belong to what other crates call.
+-- What the functions of this crate ask and promise each other. `PlanAsks`, `PlanDone`, `Plannable` and `bestAt` belong
+-- to what other crates call.
 use Prim.Native.Nat.{ℕ, zero, suc, _*_, _≤_, _<_}
 use mathlib.Core.Path.{_≡_}
 use mathlib.Core.Logic.{_⊎_}
@@ -14,7 +15,7 @@ use Rattle.group.specs.Group.{none, widest}
 use Rattle.folding.specs.declared.Outline.{Outline}
 use Rattle.layout.specs.Layout.{Layout, unmet, candidate, choice, scan, layouts, layoutOf}
 use Rattle.layout.specs.Table.{outline}
-use Rattle.layout.specs.Plan.{StackLists, PlannedAt}
+use Rattle.layout.specs.Plan.{StackLists, PlannedAt, Planned}
 use Rattle.plan.specs.declared.Best.{Best}
 
 abbrev pub layoutIn : Best → Layout
@@ -104,3 +105,8 @@ pub record Plannable (kind : Kind) (hs ws gs work : List ℕ) : Type 0 where
 -- The outline of the best layout for the limit.
 abbrev pub bestAt : Kind → ℕ → List Component → Outline
 bestAt kind limit cs = outline (layoutOf kind limit 0 cs .width) (layoutOf kind limit 0 cs .height)
+
+-- The lists hold the best layouts of the stack and of what is left of it, and the outline is that of the first.
+pub record PlanDone (kind : Kind) (limit : ℕ) (cs : List Component) (widths heights ends : List ℕ) (o : Outline) : Type 0 where
+  pub planned : Planned kind limit 0 cs widths heights ends
+  pub outlined : o ≡ bestAt kind limit cs

@@ -8,8 +8,7 @@ ghost use Rattle.terms.specs.declared.Kind.the-variants.{Apart, Nested};
 ghost use Rattle.terms.specs.Component.{componentsIn};
 ghost use Rattle.group.specs.Group.{none};
 ghost use Rattle.layout.specs.Layout.{better, choice, unmet, layouts, layoutOf};
-ghost use Rattle.layout.specs.Plan.{Planned};
-ghost use Rattle.plan.specs.Asks.{layoutIn, GroupAsks, Packed, tried, mostRows, restAt, FirstAsks, FromAsks, PlanAsks, gapBefore, Plannable, bestAt};
+ghost use Rattle.plan.specs.Asks.{layoutIn, GroupAsks, Packed, tried, mostRows, restAt, FirstAsks, FromAsks, PlanAsks, PlanDone, gapBefore, Plannable, bestAt};
 use folding::Outline;
 use group::NONE;
 use numbers::larger;
@@ -29,13 +28,6 @@ struct Best {
 
 // One more than a stack may have components.
 pub const LISTED: usize = MOST_APART + 1;
-
-// The best layouts of a stack and of what is left of it behind 1, 2, 3 and so on components.
-pub struct Layouts {
-    pub widths: [u32; LISTED],
-    pub heights: [u32; LISTED],
-    pub ends: [u32; LISTED],
-}
 
 fn count(n: usize) -> u32
     requires { ⌜ n ≤ mostApart ⌝ }
@@ -317,8 +309,9 @@ fn best_from(
     )
 }
 
-// For a height: the best layouts of a stack and of what is left of it behind 1, 2, 3 and so on components.
-fn plan(
+// For a height: the best layouts of a stack and of what is left of it behind 1, 2, 3 and so on components, and the outline of
+// the whole. A width of NONE means that there is none. The content of the work buffer is free afterwards.
+pub fn plan(
     kind: Kind,
     limit: Rows,
     h: &[u16],
@@ -328,11 +321,11 @@ fn plan(
     heights: &mut [u32],
     ends: &mut [u32],
     work: &mut [u32],
-)
+) -> Outline
     requires { ⌜ PlanAsks kind (limit .0)
         (now h) (now w) (now g) (now widths) (now heights) (now ends) (now work) ⌝ }
-    ensures { λ _. ⌜ Planned kind (limit .0) 0 (componentsIn (now (h .entry)) (now (w .entry)) (now (g .entry)))
-        (now (widths .exit)) (now (heights .exit)) (now (ends .exit)) ⌝ }
+    ensures { λ r. ⌜ PlanDone kind (limit .0) (componentsIn (now (h .entry)) (now (w .entry)) (now (g .entry)))
+        (now (widths .exit)) (now (heights .exit)) (now (ends .exit)) r ⌝ }
 {
     let mut i = h.len();
     widths[i] = 0;
@@ -345,39 +338,9 @@ fn plan(
         heights[i] = b.height.0;
         ends[i] = b.end;
     }
-}
-
-// The same in lists of its own. The content of the work buffer is free afterwards.
-pub fn layouts_for(
-    kind: Kind,
-    limit: Rows,
-    h: &[u16],
-    w: &[u16],
-    g: &[u16],
-    work: &mut [u32],
-) -> Layouts
-    requires { ⌜ Plannable kind (now h) (now w) (now g) (now work) × (limit .0 ≤ mostLimit) ⌝ }
-    ensures { λ r. ⌜ Planned kind (limit .0) 0 (componentsIn (now (h .entry)) (now (w .entry)) (now (g .entry)))
-        (r .widths) (r .heights) (r .ends) ⌝ }
-{
-    let mut widths = [0u32; LISTED];
-    let mut heights = [0u32; LISTED];
-    let mut ends = [0u32; LISTED];
-    plan(
-        kind,
-        limit,
-        h,
-        w,
-        g,
-        &mut widths,
-        &mut heights,
-        &mut ends,
-        work,
-    );
-    Layouts {
-        widths,
-        heights,
-        ends,
+    Outline {
+        width: Slices(widths[0]),
+        height: Rows(heights[0]),
     }
 }
 
@@ -395,9 +358,8 @@ pub fn outline_at(
     ensures { λ r. ⌜ r
         ≡ bestAt kind (limit .0) (componentsIn (now (h .entry)) (now (w .entry)) (now (g .entry))) ⌝ }
 {
-    let best = layouts_for(kind, limit, h, w, g, work);
-    Outline {
-        width: Slices(best.widths[0]),
-        height: Rows(best.heights[0]),
-    }
+    let mut wide = [0u32; LISTED];
+    let mut high = [0u32; LISTED];
+    let mut ends = [0u32; LISTED];
+    plan(kind, limit, h, w, g, &mut wide, &mut high, &mut ends, work)
 }

@@ -69,20 +69,26 @@ loop-less c = search needs
 loop-again : tie.Need-loop-again Inv-loop μ-loop
 loop-again c = (plan-more (c .before .before .before .before .before .before .before .before .before .before .before .before .before .before .before .pre) (c .before .before .before .before .before .before .before .loop .inv .0) (c .before .before .before .before .before .before .before .loop .inv .2) (c .before .before .before .before .before .before .before .loop .inv .3) (c .before .before .before .before .before .before .before .loop .inv .4) (c .before .before .before .before .before .before .before .loop .i - 1) (omega arith) (c .before .before .before .before .before .before .before .loop .inv .1) _ (c .before .before .best-from .ensures), omega arith, length-set (c .before .before .before .before .before .before .before .loop .widths) (c .before .before .before .before .before .before .before .loop .i - 1) (c .before .before .best-from .result .width .0) ∙ c .before .before .before .before .before .before .before .loop .inv .2, length-set (c .before .before .before .before .before .before .before .loop .heights) (c .before .before .before .before .before .before .before .loop .i - 1) (c .before .before .best-from .result .height .0) ∙ c .before .before .before .before .before .before .before .loop .inv .3, length-set (c .before .before .before .before .before .before .before .loop .ends) (c .before .before .before .before .before .before .before .loop .i - 1) (c .before .before .best-from .result .end) ∙ c .before .before .before .before .before .before .before .loop .inv .4, omega (arith, c .before .before .before .before .before .before .before .loop .inv .5))
 
+slice-read-t28 : tie.Need-slice-read-t28 Inv-loop μ-loop
+slice-read-t28 c = omega (arith, c .before .before .loop .inv .2, length-set (now (c .before .before .before .before .before .before .before .before .before .before .args .widths)) (length (now (c .before .before .before .before .before .before .before .before .before .before .args .h))) 0, c .before .before .before .before .before .before .before .before .before .before .pre .widths-long)
+
+slice-read-t31 : tie.Need-slice-read-t31 Inv-loop μ-loop
+slice-read-t31 c = omega (arith, c .before .before .before .loop .inv .3, length-set (now (c .before .before .before .before .before .before .before .before .before .before .before .args .heights)) (length (now (c .before .before .before .before .before .before .before .before .before .before .before .args .h))) 0, c .before .before .before .before .before .before .before .before .before .before .before .pre .heights-long)
+
 same-length : tie.Need-same-length Inv-loop μ-loop
-same-length c = c .before .loop .inv .2 ∙ length-set (now (c .before .before .before .before .before .before .before .before .before .args .widths)) (length (now (c .before .before .before .before .before .before .before .before .before .args .h))) 0
+same-length c = c .before .before .before .loop .inv .2 ∙ length-set (now (c .before .before .before .before .before .before .before .before .before .before .before .args .widths)) (length (now (c .before .before .before .before .before .before .before .before .before .before .before .args .h))) 0
 
 same-length-2 : tie.Need-same-length-2 Inv-loop μ-loop
-same-length-2 c = c .before .loop .inv .3 ∙ length-set (now (c .before .before .before .before .before .before .before .before .before .args .heights)) (length (now (c .before .before .before .before .before .before .before .before .before .args .h))) 0
+same-length-2 c = c .before .before .before .loop .inv .3 ∙ length-set (now (c .before .before .before .before .before .before .before .before .before .before .before .args .heights)) (length (now (c .before .before .before .before .before .before .before .before .before .before .before .args .h))) 0
 
 same-length-3 : tie.Need-same-length-3 Inv-loop μ-loop
-same-length-3 c = c .before .loop .inv .4 ∙ length-set (now (c .before .before .before .before .before .before .before .before .before .args .ends)) (length (now (c .before .before .before .before .before .before .before .before .before .args .h))) 0
+same-length-3 c = c .before .before .before .loop .inv .4 ∙ length-set (now (c .before .before .before .before .before .before .before .before .before .before .before .args .ends)) (length (now (c .before .before .before .before .before .before .before .before .before .before .before .args .h))) 0
 
 same-length-4 : tie.Need-same-length-4 Inv-loop μ-loop
-same-length-4 c = c .before .loop .inv .5
+same-length-4 c = c .before .before .before .loop .inv .5
 
 returns : tie.Need-returns Inv-loop μ-loop
-returns c = plan-done (c .before .before .before .before .before .before .before .before .before .pre) (c .before .loop .inv .0) (c .before .loop .inv .2) (c .before .loop .inv .3) (c .before .loop .inv .4) (omega arith)
+returns c = plan-done (c .before .before .before .before .before .before .before .before .before .before .before .pre) (c .before .before .before .loop .inv .0) (c .before .before .before .loop .inv .2) (c .before .before .before .loop .inv .3) (c .before .before .before .loop .inv .4) (omega arith)
 
 pub plan-spec : {M : Type 1} → statement M
 plan-spec =
@@ -107,6 +113,8 @@ plan-spec =
     slice-write-ends-2
     loop-less
     loop-again
+    slice-read-t28
+    slice-read-t31
     same-length
     same-length-2
     same-length-3
