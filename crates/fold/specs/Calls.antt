@@ -38,17 +38,19 @@ validOf kind file limit out work = andThen (checkOf kind file) (λ cs. foldCheck
 
 -- Both calls, for what is best and what is unmeetable by a height or by a width.
 module _ (Best : Kind → List Component → ℕ → List Placement → Outline → Type 0) (Unmeetable : Kind → List Component → ℕ → Type 0) where
-  -- "With valid input and buffers long enough, a limit is refused as unmeetable exactly when no legal folding keeps it, and a
-  -- folding is returned exactly when one does." "the folding that a fold call returns is the first n placements of its buffer";
-  -- "Only the first n placements .. are written; all beyond stay unchanged."
+  -- "With valid input and buffers long enough, a limit is refused as unmeetable exactly when no legal folding keeps it, and
+  -- a folding is returned exactly when one does." "the folding that a fold call returns is the first n placements of its
+  -- buffer"; "Only the first n placements .. are written; all beyond stay unchanged."
   -- Which legal folding with the fixed outline is written is free.
   abbrev pub Searched : Kind → List Component → ℕ → List ℕ → List ℕ → Answer Outline → Type 0
   Searched kind cs limit out out′ (refusal k) = (k ≡ 9) × Unmeetable kind cs limit × (out′ ≡ out)
   Searched kind cs limit out out′ (result o) =
-      Best kind cs limit (placementsOf out′ (length cs)) o × (drop (3 * length cs) out′ ≡ drop (3 * length cs) out) × (length out′ ≡ length out)
+      Best kind cs limit (placementsOf out′ (length cs)) o
+      × (drop (3 * length cs) out′ ≡ drop (3 * length cs) out)
+      × (length out′ ≡ length out)
 
-  -- "a refusal leaves every buffer lent for results unchanged", "and so is the work buffer where its content is not free": it is
-  -- free "after a result or refusal 9".
+  -- "a refusal leaves every buffer lent for results unchanged", "and so is the work buffer where its content is not free":
+  -- it is free "after a result or refusal 9".
   abbrev pub Answered : Kind → ℕ → List ℕ → List ℕ → List ℕ → List ℕ → Answer Outline → Answer (List Component) → Type 0
   Answered kind limit out work out′ work′ answer (refusal k) = (answer ≡ refusal k) × (out′ ≡ out) × (work′ ≡ work)
   Answered kind limit out work out′ work′ answer (result cs) = Searched kind cs limit out out′ answer

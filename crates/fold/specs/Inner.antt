@@ -30,8 +30,8 @@ pub record FirstLists (kind : Kind) (n : ℕ) (hs ws gs : List ℕ) : Type 0 whe
 abbrev pub Foldable : Kind → ℕ → List ℕ → List ℕ → List ℕ → List ℕ → List ℕ → Type 0
 Foldable kind limit hs ws gs out work = Plannable kind hs ws gs work × (limit ≤ mostLimit) × (3 * length hs ≤ length out)
 
--- What a fold call answers for the stack in the first n entries of three lists: its checks behind the file's own refusals, and
--- then the search.
+-- What a fold call answers for the stack in the first n entries of three lists: its checks behind the file's own refusals,
+-- and then the search.
 abbrev pub FirstAnswered : (Kind → List Component → ℕ → List Placement → Outline → Type 0) → (Kind → List Component → ℕ → Type 0) → Kind
     → ℕ → ℕ → List ℕ → List ℕ → List ℕ → List ℕ → List ℕ → Answer Outline → List ℕ → List ℕ → Type 0
 FirstAnswered Best Unmeetable kind n limit hs ws gs out work answer out′ work′ =

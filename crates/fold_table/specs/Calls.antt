@@ -33,9 +33,9 @@ tableAnswer room os = refuseIf (ltb (room / 2) (length os)) 8 (result (length os
 abbrev pub tableInto : List Outline → List ℕ → List ℕ
 tableInto os out = cond (ltb (length out / 2) (length os)) out (pairsOf os ++ drop (2 * length os) out)
 
--- "Outline table: the unbeaten outlines as 32-bit pairs width, height; widths strictly rise, heights strictly fall." There is
--- only one such list. It has at most as many outlines as the components' widths add up to, so that a caller can know a buffer
--- that is long enough.
+-- "Outline table: the unbeaten outlines as 32-bit pairs width, height; widths strictly rise, heights strictly fall." There
+-- is only one such list. It has at most as many outlines as the components' widths add up to, so that a caller can know a
+-- buffer that is long enough.
 pub record Tabled (kind : Kind) (cs : List Component) (out out′ : List ℕ) (answer : Answer ℕ) : Type 0 where
   pub listed : List Outline
   pub listing : Listing kind cs listed
@@ -44,8 +44,8 @@ pub record Tabled (kind : Kind) (cs : List Component) (out out′ : List ℕ) (a
   pub answers : answer ≡ tableAnswer (length out) listed
   pub holds : out′ ≡ tableInto listed out
 
--- "a refusal leaves every buffer lent for results unchanged", "and so is the work buffer where its content is not free": it is
--- free after a result, "or after 8 for too long a table".
+-- "a refusal leaves every buffer lent for results unchanged", "and so is the work buffer where its content is not free": it
+-- is free after a result, "or after 8 for too long a table".
 abbrev pub TableAnswered : Kind → List ℕ → List ℕ → List ℕ → List ℕ → Answer ℕ → Answer (List Component) → Type 0
 TableAnswered kind out work out′ work′ answer (refusal k) = (answer ≡ refusal k) × (out′ ≡ out) × (work′ ≡ work)
 TableAnswered kind out work out′ work′ answer (result cs) = Tabled kind cs out out′ answer

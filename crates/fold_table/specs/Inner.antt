@@ -41,8 +41,8 @@ Fits kind hs ws gs out = 2 * length (allOutlines kind (componentsIn hs ws gs)) �
 abbrev pub allInto : Kind → List Component → List ℕ → List ℕ
 allInto kind cs out = pairsOf (allOutlines kind cs) ++ drop (2 * length (allOutlines kind cs)) out
 
--- What the table call answers for the stack in the first n entries of three lists: its check behind the file's own refusals, and
--- then the search.
+-- What the table call answers for the stack in the first n entries of three lists: its check behind the file's own
+-- refusals, and then the search.
 abbrev pub FirstTabled : Kind → ℕ → List ℕ → List ℕ → List ℕ → List ℕ → List ℕ → Answer ℕ → List ℕ → List ℕ → Type 0
 FirstTabled kind n hs ws gs out work answer out′ work′ =
     TableAnswered kind out work out′ work′ answer (workCheck (length work) (componentsIn (take n hs) (take n ws) (take n gs)))

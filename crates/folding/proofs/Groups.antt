@@ -1,4 +1,5 @@
--- The first group and the rest. What follows a group is a folding of its own with group numbers from one more on; the outline is made of the two.
+-- The first group and the rest. What follows a group is a folding of its own with group numbers from one more on; the
+-- outline is made of the two.
 use Prim.Native.Nat.{ℕ, _+_, max}
 use mathlib.Core.Path.{_≡_, refl, sym, ap, _∙_}
 use mathlib.Core.List.{List, [], _∷_, _++_}

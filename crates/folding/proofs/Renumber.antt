@@ -1,4 +1,5 @@
--- What follows a group is a folding of the remaining stack with lower group numbers: legal from 0 on, with the same outline.
+-- What follows a group is a folding of the remaining stack with lower group numbers: legal from 0 on, with the same
+-- outline.
 use Prim.Native.Nat.{ℕ, zero, suc, _+_, _-_, _≤_}
 use mathlib.Core.Path.{_≡_, refl}
 use mathlib.Core.List.{List, [], _∷_, map}

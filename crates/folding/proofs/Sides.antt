@@ -1,4 +1,5 @@
--- A group as two chains, each lowest first: the left components from the last one up to the first, and the right components in order.
+-- A group as two chains, each lowest first: the left components from the last one up to the first, and the right components
+-- in order.
 use Prim.Native.Nat.{ℕ, _+_, _≤_, max}
 use mathlib.Core.Path.{_≡_, refl, sym, _∙_}
 use mathlib.Core.List.{List, [], _∷_, reverseAux}

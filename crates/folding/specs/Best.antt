@@ -1,4 +1,5 @@
--- What "best" means (document 01, "Calls"; demand 3): over legal foldings and their outlines only, for every placement list of the stack and kind.
+-- What "best" means (document 01, "Calls"; demand 3): over legal foldings and their outlines only, for every placement list
+-- of the stack and kind.
 use Prim.Native.Nat.{ℕ, _≤_, _<_}
 use mathlib.Core.Path.{_≡_}
 use mathlib.Core.Logic.{_⊎_}
@@ -21,29 +22,40 @@ Rising [] = Unit {0}
 Rising (o ∷ []) = Unit {0}
 Rising (o ∷ p ∷ os) = (o .width .0 < p .width .0) × (p .height .0 < o .height .0) × Rising (p ∷ os)
 
+-- "wider and higher compare outlines": beside o the other is "wider .., or as wide and at least as high".
+abbrev pub Wider : Outline → Outline → Type 0
+Wider o other = (o .width .0 < other .width .0) ⊎ ((o .width .0 ≡ other .width .0) × (o .height .0 ≤ other .height .0))
+
+-- "higher, or as high and at least as wide"
+abbrev pub Higher : Outline → Outline → Type 0
+Higher o other = (o .height .0 < other .height .0) ⊎ ((o .height .0 ≡ other .height .0) × (o .width .0 ≤ other .width .0))
+
+-- "wider, or higher, or equal in both"
+abbrev pub Other : Outline → Outline → Type 0
+Other o other = (o .width .0 < other .width .0) ⊎ ((o .height .0 < other .height .0) ⊎ (other ≡ o))
+
 module _ (kind : Kind) (cs : List Component) where
-  -- "A folding keeps H when its outline's height is at most H, and W when its outline's width is at most W; wider and higher compare outlines."
+  -- "A folding keeps H when its outline's height is at most H, and W when its outline's width is at most W".
   abbrev pub keepsHeight : ℕ → List Placement → Type 0
   keepsHeight h ps = outlineOf cs ps .height .0 ≤ h
 
   abbrev pub keepsWidth : ℕ → List Placement → Type 0
   keepsWidth w ps = outlineOf cs ps .width .0 ≤ w
 
-  -- "the folding returned is legal, keeps its limit and has the outline given"; "every other legal folding that keeps it is wider than the one returned, or as wide and at least as high".
+  -- "the folding returned is legal, keeps its limit and has the outline given"; "every other legal folding that keeps it is
+  -- wider than the one returned, or as wide and at least as high".
   pub record BestForHeight (limit : ℕ) (ps : List Placement) (o : Outline) : Type 0 where
     pub is-legal : Legal kind cs ps
     pub has : outlineOf cs ps ≡ o
     pub keeps : keepsHeight limit ps
-    pub best : (other : List Placement) → Legal kind cs other → keepsHeight limit other
-        → (o .width .0 < outlineOf cs other .width .0) ⊎ ((o .width .0 ≡ outlineOf cs other .width .0) × (o .height .0 ≤ outlineOf cs other .height .0))
+    pub best : (other : List Placement) → Legal kind cs other → keepsHeight limit other → Wider o (outlineOf cs other)
 
   -- "For a given width, every other that keeps it is higher, or as high and at least as wide."
   pub record BestForWidth (limit : ℕ) (ps : List Placement) (o : Outline) : Type 0 where
     pub is-legal : Legal kind cs ps
     pub has : outlineOf cs ps ≡ o
     pub keeps : keepsWidth limit ps
-    pub best : (other : List Placement) → Legal kind cs other → keepsWidth limit other
-        → (o .height .0 < outlineOf cs other .height .0) ⊎ ((o .height .0 ≡ outlineOf cs other .height .0) × (o .width .0 ≤ outlineOf cs other .width .0))
+    pub best : (other : List Placement) → Legal kind cs other → keepsWidth limit other → Higher o (outlineOf cs other)
 
   -- Refusal 9: "no legal folding keeps the limit".
   abbrev pub UnmeetableHeight : ℕ → Type 0
@@ -52,13 +64,13 @@ module _ (kind : Kind) (cs : List Component) where
   abbrev pub UnmeetableWidth : ℕ → Type 0
   UnmeetableWidth w = (ps : List Placement) → Legal kind cs ps → keepsWidth w ps → ⊥
 
-  -- "An outline is unbeaten when a legal folding has it and every other legal folding of that stack and kind is wider, or higher, or equal in both."
+  -- "An outline is unbeaten when a legal folding has it and every other legal folding of that stack and kind is wider, or
+  -- higher, or equal in both."
   pub record Unbeaten (o : Outline) : Type 0 where
     pub folding : List Placement
     pub is-legal : Legal kind cs folding
     pub has : outlineOf cs folding ≡ o
-    pub unbeaten : (other : List Placement) → Legal kind cs other
-        → (o .width .0 < outlineOf cs other .width .0) ⊎ ((o .height .0 < outlineOf cs other .height .0) ⊎ (outlineOf cs other ≡ o))
+    pub unbeaten : (other : List Placement) → Legal kind cs other → Other o (outlineOf cs other)
 
   -- Outline table: "the unbeaten outlines", all of them and no others; "widths strictly rise, heights strictly fall".
   pub record Listing (os : List Outline) : Type 0 where

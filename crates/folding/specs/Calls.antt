@@ -19,7 +19,8 @@ abbrev pub measuredAnswer : Measured → Answer Outline
 measuredAnswer (Measured.Outlined o) = result o
 measuredAnswer (Measured.Refused k) = refusal (numberOf k)
 
--- Refusal 8, "fewer than n placements", then 10, "the placements are not legal". "Numbers past the nth placement are not read, and an incomplete placement doesn't count."
+-- Refusal 8, "fewer than n placements", then 10, "the placements are not legal". "Numbers past the nth placement are not
+-- read, and an incomplete placement doesn't count."
 unfoldable pub measureIn : Kind → List Component → List ℕ → Answer Outline
 measureIn kind cs flat =
     refuseIf (ltb (length flat / 3) (length cs)) 8
@@ -34,7 +35,8 @@ measureOf kind file flat = andThen (checkOf kind file) (λ cs. measureIn kind cs
 abbrev pub secondWins : Outline → Outline → Bool
 secondWins o p = ltb (p .width .0) (o .width .0) || (eqb (p .width .0) (o .width .0) && ltb (p .height .0) (o .height .0))
 
--- "hands back the winner's placements as a part of its own buffer"; "If measuring would refuse either folding, the part is empty."
+-- "hands back the winner's placements as a part of its own buffer"; "If measuring would refuse either folding, the part is
+-- empty."
 abbrev pub winnerOf : ℕ → Answer Outline → Answer Outline → List ℕ → List ℕ → List ℕ
 winnerOf n (refusal j) q first second = []
 winnerOf n (result o) (refusal k) first second = []

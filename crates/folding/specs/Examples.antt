@@ -1,4 +1,5 @@
--- Worked examples, by computation: a folding behind each known outline of document 01's stacks A to F, and for each rule a folding that breaks it.
+-- Worked examples, by computation: a folding behind each known outline of document 01's stacks A to F, and for each rule a
+-- folding that breaks it.
 use Prim.Native.Nat.{ℕ}
 use mathlib.Core.Path.{_≡_, refl}
 use mathlib.Core.List.{List, [], _∷_}
@@ -183,7 +184,8 @@ gap-before-and-behind : Folds Apart (c 1 1 4 ∷ c 1 1 6 ∷ c 1 1 0 ∷ []) (p 
 unfolding placedOf legal each eachPair groupsOf topOf rowSum greatest lastGap folded foldGap layoutWidth layoutHeight
 gap-before-and-behind = record { is-legal = record { whole = refl; rules = refl }; has = refl }
 
--- With a fold the larger of the two gaps counts, here the one before the group: it is 3 + 7 + 2 rows high, with 2 the gap at its fold.
+-- With a fold the larger of the two gaps counts, here the one before the group: it is 3 + 7 + 2 rows high, with 2 the gap
+-- at its fold.
 larger-gap-before : Folds Nested (c 2 1 7 ∷ c 3 1 2 ∷ c 1 1 5 ∷ c 1 1 0 ∷ []) (p 0 0 0 ∷ p 1 0 0 ∷ p 1 1 0 ∷ p 2 0 0 ∷ []) 4 12
 unfolding placedOf legal each eachPair groupsOf topOf rowSum greatest lastGap folded foldGap layoutWidth layoutHeight
 larger-gap-before = record { is-legal = record { whole = refl; rules = refl }; has = refl }

@@ -1,4 +1,5 @@
--- Which foldings are legal (document 01, "Foldings"): "when all numbers are in these ranges and" each of the rules below holds.
+-- Which foldings are legal (document 01, "Foldings"): "when all numbers are in these ranges and" each of the rules below
+-- holds.
 use Prim.Native.Nat.{ℕ, _+_}
 use mathlib.Core.Path.{_≡_}
 use mathlib.Core.List.{List, [], _∷_}
@@ -41,8 +42,8 @@ fromZero (x ∷ l) = eqb (groupOf x) 0
 abbrev pub inOrder : Placed → Placed → Bool
 inOrder x y = sameGroup x y || eqb (groupOf y) (groupOf x + 1)
 
--- "In a group the left components come first, at least one; the right components follow, if any": the first of a group is on
--- the left, and in a group none on the left follows one on the right.
+-- "In a group the left components come first, at least one; the right components follow, if any": the first of a group is
+-- on the left, and in a group none on the left follows one on the right.
 abbrev pub fromLeft : List Placed → Bool
 fromLeft [] = true
 fromLeft (x ∷ l) = left x

@@ -59,7 +59,8 @@ foldGap [] = 0
 foldGap (x ∷ []) = gapOf x
 foldGap (x ∷ y ∷ g) = cond (left y) (foldGap (y ∷ g)) (gapOf x)
 
--- "Group height: T+g0+g1 without a fold; with a fold after component k, T, plus the larger of g0 and g1, plus the gap of Ck."
+-- "Group height: T+g0+g1 without a fold; with a fold after component k, T, plus the larger of g0 and g1, plus the gap of
+-- Ck."
 abbrev pub groupHeight : ℕ → List Placed → ℕ
 groupHeight g0 g = cond (folded g) (topOf g + max g0 (lastGap g) + foldGap g) (topOf g + g0 + lastGap g)
 
@@ -68,7 +69,8 @@ unfoldable pub layoutWidth : List (List Placed) → ℕ
 layoutWidth [] = 0
 layoutWidth (g ∷ gs) = groupWidth g + layoutWidth gs
 
--- "Layout height is the greatest group height"; g0, "the gap of the component just before the group", is the last gap of the group before.
+-- "Layout height is the greatest group height"; g0, "the gap of the component just before the group", is the last gap of
+-- the group before.
 unfoldable pub layoutHeight : ℕ → List (List Placed) → ℕ
 layoutHeight g0 [] = 0
 layoutHeight g0 (g ∷ gs) = max (groupHeight g0 g) (layoutHeight (lastGap g) gs)

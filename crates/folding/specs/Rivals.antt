@@ -1,4 +1,5 @@
--- What "best", "unmeetable" and "unbeaten" rule out: a legal folding of w slices and h rows is a rival that no claim outlives.
+-- What "best", "unmeetable" and "unbeaten" rule out: a legal folding of w slices and h rows is a rival that no claim
+-- outlives.
 use Prim.Native.Nat.{ℕ, _≤_, _<_}
 use mathlib.Core.Path.{_≡_, refl, ap}
 use mathlib.Core.Logic.{_⊎_, inl, inr}
@@ -10,7 +11,7 @@ use Rattle.terms.specs.declared.Kind.the-variants.{Apart}
 use Rattle.folding.specs.declared.Placement.{Placement}
 use Rattle.folding.specs.declared.Outline.{Outline}
 use Rattle.folding.specs.Outline.{outlineOf}
-use Rattle.folding.specs.Best.{BestForHeight, BestForWidth, UnmeetableHeight, UnmeetableWidth, Unbeaten}
+use Rattle.folding.specs.Best.{Wider, Higher, Other, BestForHeight, BestForWidth, UnmeetableHeight, UnmeetableWidth, Unbeaten}
 use Rattle.folding.specs.Examples.{Folds, stack-A, stack-B, A-apart-2-3, B-apart-1-10, B-apart-3-4}
 
 abbrev o : ℕ → ℕ → Outline
@@ -23,19 +24,21 @@ module _ {kind : Kind} {cs : List Component} {qs : List Placement} {w h : ℕ} (
   high : outlineOf cs qs .height .0 ≡ h
   high = ap (λ (x : Outline). x .height .0) (f .has)
 
-  not-best-for-height : (limit w′ h′ : ℕ) (ps : List Placement) → h ≤ limit → (w < w′) ⊎ ((w ≡ w′) × (h < h′)) → BestForHeight kind cs limit ps (o w′ h′) → ⊥
+  not-best-for-height : (limit w′ h′ : ℕ) (ps : List Placement) → h ≤ limit → (w < w′) ⊎ ((w ≡ w′) × (h < h′))
+      → BestForHeight kind cs limit ps (o w′ h′) → ⊥
   not-best-for-height limit w′ h′ ps k r b = go r (b .best qs (f .is-legal) (omega (arith, high)))
     where
-      go : (w < w′) ⊎ ((w ≡ w′) × (h < h′)) → (w′ < outlineOf cs qs .width .0) ⊎ ((w′ ≡ outlineOf cs qs .width .0) × (h′ ≤ outlineOf cs qs .height .0)) → ⊥
+      go : (w < w′) ⊎ ((w ≡ w′) × (h < h′)) → Wider (o w′ h′) (outlineOf cs qs) → ⊥
       go (inl x) (inl y) = omega (arith, wide)
       go (inl x) (inr y) = omega (arith, wide, y .0)
       go (inr x) (inl y) = omega (arith, wide, x .0)
       go (inr x) (inr y) = omega (arith, high, x .1, y .1)
 
-  not-best-for-width : (limit w′ h′ : ℕ) (ps : List Placement) → w ≤ limit → (h < h′) ⊎ ((h ≡ h′) × (w < w′)) → BestForWidth kind cs limit ps (o w′ h′) → ⊥
+  not-best-for-width : (limit w′ h′ : ℕ) (ps : List Placement) → w ≤ limit → (h < h′) ⊎ ((h ≡ h′) × (w < w′))
+      → BestForWidth kind cs limit ps (o w′ h′) → ⊥
   not-best-for-width limit w′ h′ ps k r b = go r (b .best qs (f .is-legal) (omega (arith, wide)))
     where
-      go : (h < h′) ⊎ ((h ≡ h′) × (w < w′)) → (h′ < outlineOf cs qs .height .0) ⊎ ((h′ ≡ outlineOf cs qs .height .0) × (w′ ≤ outlineOf cs qs .width .0)) → ⊥
+      go : (h < h′) ⊎ ((h ≡ h′) × (w < w′)) → Higher (o w′ h′) (outlineOf cs qs) → ⊥
       go (inl x) (inl y) = omega (arith, high)
       go (inl x) (inr y) = omega (arith, high, y .0)
       go (inr x) (inl y) = omega (arith, high, x .0)
@@ -50,7 +53,7 @@ module _ {kind : Kind} {cs : List Component} {qs : List Placement} {w h : ℕ} (
   not-unbeaten : (w′ h′ : ℕ) → w < w′ → h ≤ h′ → Unbeaten kind cs (o w′ h′) → ⊥
   not-unbeaten w′ h′ x y u = go (u .unbeaten qs (f .is-legal))
     where
-      go : (w′ < outlineOf cs qs .width .0) ⊎ ((h′ < outlineOf cs qs .height .0) ⊎ (outlineOf cs qs ≡ o w′ h′)) → ⊥
+      go : Other (o w′ h′) (outlineOf cs qs) → ⊥
       go (inl z) = omega (arith, wide)
       go (inr (inl z)) = omega (arith, high)
       go (inr (inr z)) = omega (arith, wide, ap (λ (e : Outline). e .width .0) z)

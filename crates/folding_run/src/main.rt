@@ -1,5 +1,5 @@
-// Measures foldings, flat and as structs, and chooses between them at the rules' edges, and writes what each call answers, a
-// line a case.
+// Measures foldings, flat and as structs, and chooses between them at the rules' edges, and writes what each call answers,
+// a line a case.
 use folding::Measured;
 use folding::Placement;
 use terms::Kind;

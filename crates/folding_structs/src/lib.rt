@@ -2,7 +2,6 @@
 ghost use mathlib.Core.Path.{_≡_};
 ghost use mathlib.Core.List.{[], _∷_, _++_};
 ghost use Prim.Native.Nat.{_+_, _*_, _≤_, _<_, min};
-ghost use lib.ListN.{length};
 ghost use Rattle.terms.specs.Numbers.{mostApart};
 ghost use Rattle.folding.specs.Calls.{measuredAnswer, measureOf};
 ghost use Rattle.folding_structs.specs.Flat.{held};

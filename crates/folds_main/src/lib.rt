@@ -1,5 +1,5 @@
-// The program `folds`, as a function, so that the gate can run it on several inputs. What it prints no contract can say; the
-// programs' stored output does.
+// The program `folds`, as a function, so that the gate can run it on several inputs. What it prints no contract can say;
+// the programs' stored output does.
 use terms::Counted;
 use terms::Kind;
 use terms::LEAST_WORK;
@@ -49,8 +49,8 @@ fn say_kind(letter: &[u8], file: &[u8], kind: Kind) {
     say_table(letter, file, kind, &mut pairs, &mut work);
 }
 
-// Prints the outline tables of the stack file on standard input, apart and then nested: a line for each outline, or one for a
-// refusal. The file is the first 4,096 bytes, which is the length of io's buffer.
+// Prints the outline tables of the stack file on standard input, apart and then nested: a line for each outline, or one for
+// a refusal. The file is the first 4,096 bytes, which is the length of io's buffer.
 pub fn run() {
     let mut input = io::buffer();
     let n = io::read_full(0, &mut input);

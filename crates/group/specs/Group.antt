@@ -1,6 +1,7 @@
--- The least height of one group whose width may be at most a cap, over all its fold points, and the least width for a height.
+-- The least height of one group whose width may be at most a cap, over all its fold points, and the least width for a
+-- height.
 -- Nothing here is part of a public promise: `proofs/Lower.antt` and `proofs/Reach.antt` show what it comes to.
-use Prim.Native.Nat.{ℕ, zero, suc, _+_, _-_, _≤_, _<_, min, max}
+use Prim.Native.Nat.{ℕ, zero, suc, _+_, _-_, _<_, min, max}
 use mathlib.Core.Path.{_≡_}
 use mathlib.Core.List.{List, [], _∷_, reverseAux, map}
 use mathlib.Core.Bool.{cond}
@@ -10,7 +11,7 @@ use Rattle.terms.specs.declared.Component.{Component}
 use Rattle.terms.specs.declared.Kind.{Kind}
 use Rattle.terms.specs.declared.Kind.the-variants.{Apart, Nested}
 use Rattle.folding.specs.declared.Placement.{Placement}
-use Rattle.group.specs.Rows.{ht, wd, gap, tall, rows, place}
+use Rattle.group.specs.Rows.{wd, gap, tall, rows, place}
 
 -- A number over all widths, heights and limits: there is none.
 abbrev pub none : ℕ
@@ -71,4 +72,6 @@ abbrev pub onRight : ℕ → List ℕ → List Placement
 onRight m ss = map (λ s. record { group = m; side = 1; start = s }) ss
 
 unfoldable pub groupPlaces : ℕ → List Component → ℕ → ℕ → List Placement
-groupPlaces cap cs m p = reverseAux (onLeft m (place cap 0 0 (leftSide p cs) (rightSide p cs) .on-left)) (onRight m (place cap 0 0 (leftSide p cs) (rightSide p cs) .on-right))
+groupPlaces cap cs m p =
+    let s = place cap 0 0 (leftSide p cs) (rightSide p cs) in
+    reverseAux (onLeft m (s .on-left)) (onRight m (s .on-right))

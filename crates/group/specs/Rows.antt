@@ -1,9 +1,10 @@
--- Two chains of components under a cap, lowest first: the least number of rows that they take side by side, and start rows that need no more.
+-- Two chains of components under a cap, lowest first: the least number of rows that they take side by side, and start rows
+-- that need no more.
 -- Components of the two chains may share a row where their widths together are at most the cap.
 -- Nothing here is part of a public promise: `proofs/Chains.antt` shows what it comes to.
 use Prim.Native.Nat.{ℕ, _+_, min}
 use mathlib.Core.List.{List, [], _∷_}
-use mathlib.Core.Bool.{Bool, true, false}
+use mathlib.Core.Bool.{true, false}
 use lib.Dec.{leb}
 use Rattle.terms.specs.declared.Component.{Component}
 
@@ -21,7 +22,8 @@ unfoldable pub tall : List Component → ℕ
 tall [] = 0
 tall (x ∷ l) = ht x + tall l
 
--- The least number of rows, where the left chain may start at row a and the right one at row b. Both are packed until two of them clash; then one of the two goes on top of the other.
+-- The least number of rows, where the left chain may start at row a and the right one at row b. Both are packed until two
+-- of them clash; then one of the two goes on top of the other.
 unfoldable pub rows : ℕ → ℕ → ℕ → List Component → List Component → ℕ
 rows cap a b [] r = b + tall r
 rows cap a b (x ∷ l) [] = a + tall (x ∷ l)

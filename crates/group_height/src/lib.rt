@@ -1,7 +1,6 @@
 // The least height of one group under a cap, where its fold is, and the least cap for a height.
 ghost use mathlib.Core.Path.{_≡_};
-ghost use mathlib.Core.List.{List};
-ghost use Prim.Native.Nat.{ℕ, _+_, _-_, _*_, _≤_, _<_, max};
+ghost use Prim.Native.Nat.{_+_, _-_, _*_, _≤_, _<_};
 ghost use lib.ListN.{length, getD};
 ghost use Rattle.terms.specs.Numbers.{mostNested};
 ghost use Rattle.numbers.specs.Table.{stride, cells};

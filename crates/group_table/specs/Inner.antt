@@ -28,7 +28,8 @@ pub record Ready (hs ws es : List ℕ) (cap p q : ℕ) : Type 0 where
   pub more : q < length hs
   pub right : (a b : ℕ) → a ≤ p → q ≤ b → b ≤ length hs → a + q < p + b → Right hs ws es cap a b
 
--- The end of a walk at (p, q), with the left side up to row a and the right one up to row b: the entries that it may read are small.
+-- The end of a walk at (p, q), with the left side up to row a and the right one up to row b: the entries that it may read
+-- are small.
 pub record Ending (hs es : List ℕ) (p q a b : ℕ) : Type 0 where
   pub few : length hs ≤ mostNested
   pub low : (i : ℕ) → getD hs i 0 ≤ mostSize

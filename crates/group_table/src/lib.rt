@@ -1,7 +1,6 @@
 // The table of the least rows of one group's sides, for every pair of ends.
 ghost use mathlib.Core.Path.{_≡_};
-ghost use mathlib.Core.List.{List};
-ghost use Prim.Native.Nat.{ℕ, _+_, _*_, _≤_, _<_, min};
+ghost use Prim.Native.Nat.{_+_, _*_, _≤_, _<_};
 ghost use lib.ListN.{length, getD};
 ghost use Rattle.group.specs.Table.{entry, Filled};
 ghost use Rattle.group_table.specs.Table.{Asks};

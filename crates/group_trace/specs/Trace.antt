@@ -26,7 +26,8 @@ pub record WriteAsks (hs ws es out : List ℕ) (p cap : ℕ) : Type 0 where
   pub table : TableFrom hs ws es cap p
   pub room : 3 * length hs ≤ length out
 
--- The first p components and those from q on are still to be placed, the left ones from row a on, the right ones from row b on.
+-- The first p components and those from q on are still to be placed, the left ones from row a on, the right ones from row b
+-- on.
 pub record TurnAsks (hs ws es : List ℕ) (p q a b cap : ℕ) : Type 0 where
   pub columns : Columns hs ws
   pub few : length hs ≤ mostApart

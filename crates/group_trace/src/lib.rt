@@ -1,8 +1,8 @@
 // Writes the placements of one group, with the fold where the table of the group has found it.
 ghost use mathlib.Core.Path.{_≡_};
 ghost use mathlib.Core.List.{_∷_, _++_};
-ghost use Prim.Native.Nat.{_+_, _*_, _≤_, _<_};
-ghost use lib.ListN.{length, getD, take, drop};
+ghost use Prim.Native.Nat.{_+_, _*_, _<_};
+ghost use lib.ListN.{length, take, drop};
 ghost use Rattle.terms.specs.Numbers.{mostApart};
 ghost use Rattle.group.specs.Table.{bare};
 ghost use Rattle.group_trace.specs.Trace.{WriteAsks, TurnAsks, Turned, groupInto};
@@ -17,7 +17,8 @@ struct Turn {
     b: u32,
 }
 
-// Both sides have components left: the lower one goes first where the two fit side by side, else the one that leaves the fewer rows.
+// Both sides have components left: the lower one goes first where the two fit side by side, else the one that leaves the
+// fewer rows.
 fn meet(h: &[u16], w: &[u16], e: &[u32], p: usize, q: usize, a: u32, b: u32, cap: Slices) -> Turn
     requires { ⌜ TurnAsks (now h) (now w) (now e) p q a b (cap .0) × (0 < p) × (q < length (now h)) ⌝ }
     ensures { λ r. ⌜ Turned (cap .0) (bare (now (h .entry)) (now (w .entry))) p q a b r ⌝ }

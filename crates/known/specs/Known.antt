@@ -1,5 +1,5 @@
--- The known stacks (document 01, "Known stacks"): one list of lines, each a claim about all legal foldings of its stack and kind
--- and about what the calls answer, or about a refusal.
+-- The known stacks (document 01, "Known stacks"): one list of lines, each a claim about all legal foldings of its stack and
+-- kind and about what the calls answer, or about a refusal.
 use Prim.Native.Nat.{ℕ, zero, suc}
 use mathlib.Core.Path.{_≡_}
 use mathlib.Core.List.{List, [], _∷_}
@@ -15,8 +15,9 @@ use Rattle.folding.specs.Best.{BestForHeight, BestForWidth, UnmeetableHeight, U
 use Rattle.fold.specs.Calls.{workCheck, foldChecks, validOf, ToHeight, ToWidth}
 use Rattle.fold_table.specs.Calls.{tableValidOf, tableAnswer, tableInto, TableOf}
 
--- `size`: the refusals of a list of components. `lent`: those of a fold call's limit, placement buffer and work buffer, for one
--- component. `table-work`: that of the table's work buffer. `table-room`: that of its pairs, for a table of these outlines.
+-- `size`: the refusals of a list of components. `lent`: those of a fold call's limit, placement buffer and work buffer, for
+-- one component. `table-work`: that of the table's work buffer. `table-room`: that of its pairs, for a table of these
+-- outlines.
 pub data Line : Type 0 where
   to-height : Kind → List Component → ℕ → Answer Outline → Line
   to-width : Kind → List Component → ℕ → Answer Outline → Line
@@ -38,8 +39,8 @@ Holds (lent limit out work a) = foldChecks limit out work 1 1 ≡ a
 Holds (table-work n a) = workCheck n 1 ≡ a
 Holds (table-room n os a) = tableAnswer n os ≡ a
 
--- What the calls answer, and the table writes, for every file that reads to the stack, whatever the lent buffers hold: no other
--- answer keeps their promise.
+-- What the calls answer, and the table writes, for every file that reads to the stack, whatever the lent buffers hold: no
+-- other answer keeps their promise.
 abbrev pub Answers : Line → Type 0
 Answers (to-height kind cs limit a) = (file out work out′ work′ : List ℕ) (answer : Answer Outline)
     → validOf kind file limit out work ≡ result cs → ToHeight kind file limit out work answer out′ work′ → answer ≡ a

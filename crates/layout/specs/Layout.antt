@@ -1,4 +1,5 @@
--- The best layout of a stack for a height: its first group followed by the best layout of the rest, over all ends of the first group.
+-- The best layout of a stack for a height: its first group followed by the best layout of the rest, over all ends of the
+-- first group.
 -- Nothing here is part of a public promise: `proofs/` shows what it comes to against every legal folding.
 use Prim.Native.Nat.{ℕ, zero, suc, _+_, max}
 use mathlib.Core.List.{List, [], _∷_}
@@ -41,7 +42,8 @@ candidate kind limit g0 group rest k =
 abbrev pub choice : Layout → Layout → Layout
 choice a b = cond (better a b) a b
 
--- The best of those with at most k components in the first group; `later` has the best layouts behind 1, 2, 3 and so on components.
+-- The best of those with at most k components in the first group; `later` has the best layouts behind 1, 2, 3 and so on
+-- components.
 unfoldable pub scan : Kind → ℕ → ℕ → List Component → List Layout → ℕ → Layout
 scan kind limit g0 cs later zero = unmet
 scan kind limit g0 cs later (suc k) =
@@ -50,7 +52,8 @@ scan kind limit g0 cs later (suc k) =
 -- The best layouts of a stack and of what is left of it behind 1, 2, 3 and so on components; g0 is the gap before it.
 unfoldable pub layouts : Kind → ℕ → ℕ → List Component → List Layout
 layouts kind limit g0 [] = empty ∷ []
-layouts kind limit g0 (x ∷ cs) = scan kind limit g0 (x ∷ cs) (layouts kind limit (gap x) cs) (suc (length cs)) ∷ layouts kind limit (gap x) cs
+layouts kind limit g0 (x ∷ cs) =
+    scan kind limit g0 (x ∷ cs) (layouts kind limit (gap x) cs) (suc (length cs)) ∷ layouts kind limit (gap x) cs
 
 abbrev pub layoutOf : Kind → ℕ → ℕ → List Component → Layout
 layoutOf kind limit g0 cs = getD (layouts kind limit g0 cs) 0 unmet

@@ -1,5 +1,5 @@
 -- The best layouts of a stack and of all that is left of it, in three lists.
-use Prim.Native.Nat.{ℕ, _+_, _≤_, _<_}
+use Prim.Native.Nat.{ℕ, _≤_, _<_}
 use mathlib.Core.Path.{_≡_}
 use mathlib.Core.List.{List}
 use lib.ListN.{length, getD}
@@ -9,7 +9,8 @@ use Rattle.terms.specs.declared.Kind.{Kind}
 use Rattle.terms.specs.Component.{mostOf}
 use Rattle.layout.specs.Layout.{Layout, unmet, layouts}
 
--- The columns of a stack, or of what is left of one: as many widths and gaps as heights, no more than the kind takes, and each number in its range.
+-- The columns of a stack, or of what is left of one: as many widths and gaps as heights, no more than the kind takes, and
+-- each number in its range.
 pub record StackLists (kind : Kind) (hs ws gs : List ℕ) : Type 0 where
   pub same-widths : length ws ≡ length hs
   pub same-gaps : length gs ≡ length hs

@@ -1,5 +1,5 @@
--- What the functions of this crate ask and promise each other. `PlanAsks`, `PlanDone`, `Plannable` and `bestAt` belong
--- to what other crates call.
+-- What the functions of this crate ask and promise each other. `PlanAsks`, `PlanDone`, `Plannable` and `bestAt` belong to
+-- what other crates call.
 use Prim.Native.Nat.{ℕ, zero, suc, _*_, _≤_, _<_}
 use mathlib.Core.Path.{_≡_}
 use mathlib.Core.Logic.{_⊎_}

@@ -1,7 +1,6 @@
 // The best layouts of a stack for a height, from its last component to its first.
 ghost use mathlib.Core.Path.{_≡_};
-ghost use mathlib.Core.Bool.{Bool};
-ghost use Prim.Native.Nat.{ℕ, _+_, _*_, _≤_, _<_, min, max};
+ghost use Prim.Native.Nat.{_+_, _*_, _≤_, _<_};
 ghost use lib.ListN.{length, getD, take};
 ghost use Rattle.terms.specs.Numbers.{mostApart, mostLimit, leastWork};
 ghost use Rattle.terms.specs.declared.Kind.the-variants.{Apart, Nested};
@@ -105,7 +104,8 @@ fn try_flat(
     )
 }
 
-// A group with the fold that makes it narrowest in front of the rest. A group that is too wide to improve the best layout need not be searched.
+// A group with the fold that makes it narrowest in front of the rest. A group that is too wide to improve the best layout
+// need not be searched.
 fn try_folds(
     limit: Rows,
     g0: Rows,
@@ -217,7 +217,8 @@ fn rest_at(widths: &[u32], heights: &[u32], k: usize) -> Best
     }
 }
 
-// The best layout of what is left of a stack, from the best ones behind 1, 2, 3 and so on of its components. Groups that are too tall end the search.
+// The best layout of what is left of a stack, from the best ones behind 1, 2, 3 and so on of its components. Groups that
+// are too tall end the search.
 fn first_group(
     kind: Kind,
     limit: Rows,
@@ -309,8 +310,8 @@ fn best_from(
     )
 }
 
-// For a height: the best layouts of a stack and of what is left of it behind 1, 2, 3 and so on components, and the outline of
-// the whole. A width of NONE means that there is none. The content of the work buffer is free afterwards.
+// For a height: the best layouts of a stack and of what is left of it behind 1, 2, 3 and so on components, and the outline
+// of the whole. A width of NONE means that there is none. The content of the work buffer is free afterwards.
 pub fn plan(
     kind: Kind,
     limit: Rows,

@@ -1,4 +1,5 @@
--- Answers in numbers, as C and Rust receive them. A refusal is its number, 1 to 10; a result has the refusal 0. So the two cannot be confused.
+-- Answers in numbers, as C and Rust receive them. A refusal is its number, 1 to 10; a result has the refusal 0. So the two
+-- cannot be confused.
 use Prim.Native.Nat.{ℕ, _+_, _-_, _*_}
 use mathlib.Core.Path.{_≡_}
 use mathlib.Core.List.{List}
@@ -32,7 +33,10 @@ abbrev pub countOfCode : Count → Answer ℕ
 countOfCode c = cond (eqb (c .refusal) 0) (result (c .count)) (refusal (c .refusal))
 
 abbrev pub outlineOfCode : Extent → Answer Outline
-outlineOfCode e = cond (eqb (e .refusal) 0) (result (record { width = record { 0 = e .width }; height = record { 0 = e .height } })) (refusal (e .refusal))
+outlineOfCode e =
+    cond (eqb (e .refusal) 0)
+    (result (record { width = record { 0 = e .width }; height = record { 0 = e .height } }))
+    (refusal (e .refusal))
 
 -- The numbers beside a refusal are 0.
 abbrev pub PlainCount : Count → Type 0
@@ -45,7 +49,9 @@ PlainOutline e = e ≡ outlineCode (outlineOfCode e)
 abbrev pub partCode : Answer (List Component) → ℕ → Part
 partCode (refusal k) number = record { start = 0; length = 0 }
 partCode (result cs) number =
-    cond (leb 1 number && leb number (length cs)) (record { start = 7 + 6 * (number - 1); length = 6 }) (record { start = 0; length = 0 })
+    cond (leb 1 number && leb number (length cs))
+    (record { start = 7 + 6 * (number - 1); length = 6 })
+    (record { start = 0; length = 0 })
 
 -- Choose: 1 for the first, 2 for the second, 0 where measuring would refuse either.
 abbrev pub choiceCode : Answer Outline → Answer Outline → ℕ

@@ -2,24 +2,24 @@
 use Prim.Native.Nat.{ℕ, zero, suc, _+_, _*_, _<_, _≤_}
 use mathlib.Core.Path.{_≡_, refl, ap, sym, _∙_}
 use mathlib.Core.List.{List, [], _∷_, map}
-use mathlib.Core.Bool.{Bool, true, false, not, _&&_}
+use mathlib.Core.Bool.{Bool, true, false, _&&_}
 use native.Mathlib.Omega.{arith}
 use lib.ListN.{length, drop, getD}
 use lib.Seq.{getD-drop, ext-getD}
-use lib.Dec.{eqb, leb, ltb}
-use borrow.Author.Tests.{eqb-true, leb-true, le-ltb, eq-eqb, not-false}
+use lib.Dec.{eqb, leb}
+use borrow.Author.Tests.{eqb-true, leb-true, le-ltb, eq-eqb}
 use Rattle.terms.specs.declared.Component.{Component}
 use Rattle.terms.specs.declared.Kind.{Kind}
 use Rattle.terms.specs.declared.Kind.the-variants.{Apart}
-use Rattle.terms.specs.Answer.{result, refuseIf}
+use Rattle.terms.specs.Answer.{result}
 use Rattle.stack_write.specs.Call.{OneFile}
 use Rattle.terms.specs.Component.{goodSize, goodGap, ends, every, mostOf, stackOf, tabulate, componentIn, componentsIn}
 use Rattle.stack.specs.File.{Bytes, wordAt, componentFrom, componentAt, componentsOf, headerOf, checkOf}
 use Rattle.stack_write.specs.File.{low, high, bytesOf, fileOf}
 use Rattle.terms.proofs.Tabulate.{tabulate-length, tabulate-at, tabulate-front, tabulate-same, tabulate-map}
-use Rattle.terms.proofs.Answers.{stack-is, stack-of, most-256, passed, went-on}
+use Rattle.terms.proofs.Answers.{stack-is}
 use Rattle.terms.proofs.Bools.{both}
-use Rattle.terms.proofs.Lists.{length-map, columns, sized}
+use Rattle.terms.proofs.Lists.{sized}
 use Rattle.stack.proofs.Valid.{Header, valid}
 
 pub bytes-length : (cs : List Component) → length (bytesOf cs) ≡ 6 * length cs

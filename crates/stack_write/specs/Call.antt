@@ -32,8 +32,8 @@ abbrev pub writeInto : Answer (List Component) → List ℕ → List ℕ
 writeInto (refusal k) old = old
 writeInto (result cs) old = fileOf cs ++ drop (7 + 6 * length cs) old
 
--- "every valid list of components writes to the one file that reads to it": a call of either kind checks the file as it does
--- the components, which hold the three lists, and no other file reads to them.
+-- "every valid list of components writes to the one file that reads to it": a call of either kind checks the file as it
+-- does the components, which hold the three lists, and no other file reads to them.
 pub record OneFile (heights widths gaps : List ℕ) (cs : List Component) (file : List ℕ) : Type 0 where
   pub reads : (kind : Kind) → checkOf kind file ≡ stackOf (mostOf kind) cs
   pub heights-back : map (λ c. c .height .0) cs ≡ heights

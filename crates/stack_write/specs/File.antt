@@ -16,7 +16,8 @@ bytesOf [] = []
 bytesOf (c ∷ cs) =
     low (c .height .0) ∷ high (c .height .0) ∷ low (c .width .0) ∷ high (c .width .0) ∷ low (c .gap .0) ∷ high (c .gap .0) ∷ bytesOf cs
 
--- "A stack file is: the letters STK (3 bytes), a version (16 bits, 1), the count n (16 bits), then six bytes for each component".
+-- "A stack file is: the letters STK (3 bytes), a version (16 bits, 1), the count n (16 bits), then six bytes for each
+-- component".
 abbrev pub headed : ℕ → List ℕ → List ℕ
 headed n body = 83 ∷ 84 ∷ 75 ∷ 1 ∷ 0 ∷ low n ∷ high n ∷ body
 

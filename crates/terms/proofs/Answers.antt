@@ -7,7 +7,7 @@ use mathlib.Core.Bool.{Bool, true, false, not}
 use native.Mathlib.Omega.{arith}
 use lib.ListN.{length}
 use lib.Dec.{ltb, eqb}
-use borrow.Author.Tests.{le-ltb, ne-eqb, ltb-false, eqb-false, not-false}
+use borrow.Author.Tests.{ltb-false, eqb-false, not-false}
 use Rattle.terms.specs.declared.Component.{Component}
 use Rattle.terms.specs.declared.Kind.{Kind}
 use Rattle.terms.specs.Answer.{Answer, refusal, result, refuseIf, andThen}
@@ -43,10 +43,6 @@ stack-is most cs ds e =
     let n : length cs ≢ 0 = eqb-false _ _ (e1 .0) in
     let s : Stack most cs = record { some = omega arith; few = ltb-false _ _ (e2 .0); sizes = not-false _ (e3 .0); gaps = not-false _ (e4 .0) } in
     (m, rw m at s)
-
-pub stack-of : (most : ℕ) (cs : List Component) → Stack most cs → stackOf most cs ≡ result cs
-unfolding stackOf
-stack-of most cs s = rw (ne-eqb (length cs) 0 (λ e. omega arith), le-ltb most (length cs) (s .few), s .sizes, s .gaps)
 
 pub most-256 : (kind : Kind) → mostOf kind ≤ 256
 most-256 Kind.Apart = omega arith

@@ -1,4 +1,5 @@
-// Runs every line of a file of small stacks and their outline tables through the table and both folds, at each outline and between outlines, and counts.
+// Runs every line of a file of small stacks and their outline tables through the table and both folds, at each outline and
+// between outlines, and counts.
 // A line: components as height/width/gap, the apart table, the nested table, apart by bars.
 use folding::Measured;
 use terms::Counted;

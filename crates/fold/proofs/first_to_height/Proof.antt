@@ -9,7 +9,6 @@ use Rattle.fold.proofs.Answering.{first-refused, search-asks, first-hei
 use mathlib.Core.Path.{sym, _∙_}
 use denote.Ref.{now}
 use borrow.Author.Needs.{needs}
-use borrow.Author.Needs.{needs}
 use Rattle.fold.proofs.first_to_height.Statement.{statement}
 use Rattle.fold.proofs.first_to_height.Tie as tie
 

@@ -9,7 +9,6 @@ use Rattle.folding.specs.Calls.{measuredAnswer}
 use mathlib.Core.Path.{sym, _∙_}
 use denote.Ref.{now}
 use borrow.Author.Needs.{needs}
-use borrow.Author.Needs.{needs}
 use Rattle.fold.proofs.first_to_width.Statement.{statement}
 use Rattle.fold.proofs.first_to_width.Tie as tie
 

@@ -8,7 +8,6 @@ use Rattle.folding.specs.Best.{BestForHeight, UnmeetableHeight}
 use mathlib.Core.Path.{refl}
 use denote.Ref.{now}
 use borrow.Author.Needs.{needs}
-use borrow.Author.Needs.{needs}
 use Rattle.fold.proofs.to_height.Statement.{statement}
 use Rattle.fold.proofs.to_height.Tie as tie
 

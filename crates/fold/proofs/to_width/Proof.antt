@@ -8,7 +8,6 @@ use Rattle.folding.specs.Best.{BestForWidth, UnmeetableWidth}
 use mathlib.Core.Path.{refl}
 use denote.Ref.{now}
 use borrow.Author.Needs.{needs}
-use borrow.Author.Needs.{needs}
 use Rattle.fold.proofs.to_width.Statement.{statement}
 use Rattle.fold.proofs.to_width.Tie as tie
 

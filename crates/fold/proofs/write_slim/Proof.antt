@@ -3,7 +3,6 @@ use Rattle.fold.proofs.Held.{stacked}
 use Rattle.folding.specs.Calls.{measuredAnswer}
 use native.Mathlib.Omega.{arith}
 use borrow.Author.Needs.{needs}
-use borrow.Author.Needs.{needs}
 use Rattle.fold.proofs.write_slim.Statement.{statement}
 use Rattle.fold.proofs.write_slim.Tie as tie
 

@@ -6,7 +6,6 @@ use Rattle.fold_table.proofs.Tables.{work-short, tabled, list-asks}
 use mathlib.Core.Path.{sym}
 use denote.Ref.{now}
 use borrow.Author.Needs.{needs}
-use borrow.Author.Needs.{needs}
 use Rattle.fold_table.proofs.first_outlines.Statement.{statement}
 use Rattle.fold_table.proofs.first_outlines.Tie as tie
 

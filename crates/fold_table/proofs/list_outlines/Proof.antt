@@ -3,7 +3,6 @@ use Rattle.fold_table.proofs.Tables.{too-long, all-listed}
 use native.Mathlib.Omega.{arith}
 use denote.Ref.{now}
 use borrow.Author.Needs.{needs}
-use borrow.Author.Needs.{needs}
 use Rattle.fold_table.proofs.list_outlines.Statement.{statement}
 use Rattle.fold_table.proofs.list_outlines.Tie as tie
 

@@ -2,7 +2,6 @@ use lib.ListN.{length-set}
 use Rattle.fold_table.proofs.Tables.{two-set}
 use native.Mathlib.Omega.{arith}
 use borrow.Author.Needs.{needs}
-use borrow.Author.Needs.{needs}
 use Rattle.fold_table.proofs.put_pair.Statement.{statement}
 use Rattle.fold_table.proofs.put_pair.Tie as tie
 

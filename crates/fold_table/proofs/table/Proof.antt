@@ -1,12 +1,10 @@
 use mathlib.Core.Path.{ap}
 use Rattle.stack.proofs.Reading.{read-held, read-refused}
 use Rattle.terms.specs.Answer.{countAnswer}
-use Rattle.terms.specs.Answer.{countAnswer}
 use Rattle.fold.proofs.Held.{first-held}
 use Rattle.fold_table.proofs.Tables.{refused-file, of-file}
 use mathlib.Core.Path.{refl}
 use denote.Ref.{now}
-use borrow.Author.Needs.{needs}
 use borrow.Author.Needs.{needs}
 use Rattle.fold_table.proofs.table.Statement.{statement}
 use Rattle.fold_table.proofs.table.Tie as tie

@@ -1,4 +1,5 @@
--- `lend` meets its contract: a walk of its MIR, by hand, since no reference to an array of structs is covered. The array is lent for a lifetime that is made for the call, and taken back after it.
+-- `lend` meets its contract: a walk of its MIR, by hand, since no reference to an array of structs is covered. The array is
+-- lent for a lifetime that is made for the call, and taken back after it.
 -- All that the proof knows of `measure_placements` is that it meets its contract.
 use mathlib.Core.Path.{_≡_, refl, sym}
 use Prim.Native.Nat.{ℕ, _*_, _<_, _^_}

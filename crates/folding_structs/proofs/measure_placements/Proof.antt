@@ -1,4 +1,5 @@
--- `measure_placements` meets its contract: a walk of its MIR, by hand, since no slice of structs is covered. All that the proof knows of the four functions that it calls is that each meets its contract.
+-- `measure_placements` meets its contract: a walk of its MIR, by hand, since no slice of structs is covered. All that the
+-- proof knows of the four functions that it calls is that each meets its contract.
 use mathlib.Core.Path.{_≡_, refl, sym, _∙_, ap}
 use Prim.Native.Nat.{ℕ, _+_, _-_, _*_, _<_, _≤_, _^_, min}
 use native.Mathlib.Omega.{arith}

@@ -1,7 +1,6 @@
 use Rattle.folds_main.proofs.Fits.{fits}
 use denote.Ref.{now}
 use borrow.Author.Needs.{needs}
-use borrow.Author.Needs.{needs}
 use Rattle.folds_main.proofs.say_table.Statement.{statement}
 use Rattle.folds_main.proofs.say_table.Tie as tie
 

@@ -1,7 +1,6 @@
 use Rattle.group_table.proofs.Walking.{no-left, no-right, sharing}
 use native.Mathlib.Omega.{arith}
 use borrow.Author.Needs.{needs}
-use borrow.Author.Needs.{needs}
 use Rattle.group_table.proofs.beside.Statement.{statement}
 use Rattle.group_table.proofs.beside.Tie as tie
 

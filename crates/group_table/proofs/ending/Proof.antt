@@ -2,7 +2,6 @@ use Rattle.group_table.proofs.Walking.{ended-top, ended-side, ended-cla
 use native.Mathlib.Omega.{arith}
 use mathlib.Core.Path.{refl}
 use borrow.Author.Needs.{needs}
-use borrow.Author.Needs.{needs}
 use Rattle.group_table.proofs.ending.Statement.{statement}
 use Rattle.group_table.proofs.ending.Tie as tie
 

@@ -1,6 +1,5 @@
 use Rattle.plan.proofs.Planning.{first-asks, first-is}
 use borrow.Author.Needs.{needs}
-use borrow.Author.Needs.{needs}
 use Rattle.plan.proofs.best_from.Statement.{statement}
 use Rattle.plan.proofs.best_from.Tie as tie
 

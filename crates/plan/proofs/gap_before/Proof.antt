@@ -1,7 +1,5 @@
 use mathlib.Core.Path.{_∙_}
 use Rattle.plan.proofs.Gaps.{gap-read}
-use mathlib.Core.Path.{_∙_}
-use borrow.Author.Needs.{needs}
 use borrow.Author.Needs.{needs}
 use Rattle.plan.proofs.gap_before.Statement.{statement}
 use Rattle.plan.proofs.gap_before.Tie as tie

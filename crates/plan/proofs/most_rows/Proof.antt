@@ -1,6 +1,5 @@
 use native.Mathlib.Omega.{arith}
 use borrow.Author.Needs.{needs}
-use borrow.Author.Needs.{needs}
 use Rattle.plan.proofs.most_rows.Statement.{statement}
 use Rattle.plan.proofs.most_rows.Tie as tie
 

@@ -1,5 +1,4 @@
 use borrow.Author.Needs.{needs}
-use borrow.Author.Needs.{needs}
 use Rattle.plan.proofs.pick.Statement.{statement}
 use Rattle.plan.proofs.pick.Tie as tie
 

@@ -6,7 +6,6 @@ use lib.Seq.{length-take-le}
 use mathlib.Core.Path.{sym}
 use denote.Ref.{now}
 use borrow.Author.Needs.{needs}
-use borrow.Author.Needs.{needs}
 use Rattle.plan.proofs.try_first.Statement.{statement}
 use Rattle.plan.proofs.try_first.Tie as tie
 

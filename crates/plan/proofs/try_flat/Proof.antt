@@ -1,7 +1,6 @@
 use Rattle.plan.proofs.Trying.{wide-4000, rest-none, flat-high, flat-tried}
 use native.Mathlib.Omega.{arith}
 use borrow.Author.Needs.{needs}
-use borrow.Author.Needs.{needs}
 use Rattle.plan.proofs.try_flat.Statement.{statement}
 use Rattle.plan.proofs.try_flat.Tie as tie
 

@@ -1,7 +1,6 @@
 use Rattle.plan.proofs.Trying.{wide-4000, rest-none, narrow-asks, folds-wide, folds-none, folds-tried}
 use native.Mathlib.Omega.{arith}
 use borrow.Author.Needs.{needs}
-use borrow.Author.Needs.{needs}
 use Rattle.plan.proofs.try_folds.Statement.{statement}
 use Rattle.plan.proofs.try_folds.Tie as tie
 

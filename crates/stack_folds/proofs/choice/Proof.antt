@@ -1,6 +1,5 @@
 use mathlib.Core.Path.{sym, _∙_}
 use borrow.Author.Needs.{needs}
-use borrow.Author.Needs.{needs}
 use Rattle.stack_folds.proofs.choice.Statement.{statement}
 use Rattle.stack_folds.proofs.choice.Tie as tie
 

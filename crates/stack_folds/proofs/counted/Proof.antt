@@ -1,5 +1,4 @@
 use borrow.Author.Needs.{needs}
-use borrow.Author.Needs.{needs}
 use Rattle.stack_folds.proofs.counted.Statement.{statement}
 use Rattle.stack_folds.proofs.counted.Tie as tie
 

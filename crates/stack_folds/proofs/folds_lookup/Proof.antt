@@ -5,7 +5,6 @@ use Rattle.terms.specs.Answer.{countAnswer}
 use native.Mathlib.Omega.{arith}
 use mathlib.Core.Path.{sym, _∙_}
 use borrow.Author.Needs.{needs}
-use borrow.Author.Needs.{needs}
 use Rattle.stack_folds.proofs.folds_lookup.Statement.{statement}
 use Rattle.stack_folds.proofs.folds_lookup.Tie as tie
 

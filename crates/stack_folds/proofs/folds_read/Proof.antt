@@ -1,6 +1,5 @@
 use Rattle.stack_folds.proofs.Codes.{count-said, plain-count}
 use borrow.Author.Needs.{needs}
-use borrow.Author.Needs.{needs}
 use Rattle.stack_folds.proofs.folds_read.Statement.{statement}
 use Rattle.stack_folds.proofs.folds_read.Tie as tie
 

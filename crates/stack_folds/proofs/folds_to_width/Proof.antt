@@ -1,6 +1,5 @@
 use Rattle.stack_folds.proofs.Codes.{outline-said, plain-outline}
 use borrow.Author.Needs.{needs}
-use borrow.Author.Needs.{needs}
 use Rattle.stack_folds.proofs.folds_to_width.Statement.{statement}
 use Rattle.stack_folds.proofs.folds_to_width.Tie as tie
 

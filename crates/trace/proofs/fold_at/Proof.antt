@@ -1,6 +1,5 @@
 use Rattle.trace.proofs.Grouping.{apart-found, fill-asks, point-asks, nested-found}
 use borrow.Author.Needs.{needs}
-use borrow.Author.Needs.{needs}
 use Rattle.trace.proofs.fold_at.Statement.{statement}
 use Rattle.trace.proofs.fold_at.Tie as tie
 

@@ -3,7 +3,6 @@ use Rattle.trace.proofs.Grouping.{first-group}
 use native.Mathlib.Omega.{arith}
 use mathlib.Core.Path.{sym}
 use borrow.Author.Needs.{needs}
-use borrow.Author.Needs.{needs}
 use Rattle.trace.proofs.put_first.Statement.{statement}
 use Rattle.trace.proofs.put_first.Tie as tie
 

@@ -1,6 +1,5 @@
 use Rattle.trace.proofs.Grouping.{write-asks}
 use borrow.Author.Needs.{needs}
-use borrow.Author.Needs.{needs}
 use Rattle.trace.proofs.put_group.Statement.{statement}
 use Rattle.trace.proofs.put_group.Tie as tie
 

@@ -2,7 +2,6 @@ use lib.Seq.{length-take-le}
 use native.Mathlib.Omega.{arith}
 use mathlib.Core.Path.{sym}
 use borrow.Author.Needs.{needs}
-use borrow.Author.Needs.{needs}
 use Rattle.vectors.proofs.line.Statement.{statement}
 use Rattle.vectors.proofs.line.Tie as tie
 

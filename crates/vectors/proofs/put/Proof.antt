@@ -1,7 +1,6 @@
 use lib.ListN.{length-set}
 use native.Mathlib.Omega.{arith}
 use borrow.Author.Needs.{needs}
-use borrow.Author.Needs.{needs}
 use Rattle.vectors.proofs.put.Statement.{statement}
 use Rattle.vectors.proofs.put.Tie as tie
 
