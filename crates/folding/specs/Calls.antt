@@ -10,6 +10,8 @@ use Rattle.terms.specs.Answer.{Answer, refusal, result, refuseIf, andThen, numb
 use Rattle.stack.specs.File.{checkOf}
 use Rattle.folding.specs.declared.Outline.{Outline}
 use Rattle.folding.specs.declared.Measured.{Measured}
+use Rattle.folding.specs.declared.Winner.{Winner}
+use Rattle.folding.specs.declared.Winner.the-variants.{First, Second, Neither}
 use Rattle.folding.specs.Placement.{placedOf, placementsOf}
 use Rattle.folding.specs.Legal.{legal}
 use Rattle.folding.specs.Outline.{outlineOf}
@@ -35,16 +37,23 @@ measureOf kind file flat = andThen (checkOf kind file) (λ cs. measureIn kind cs
 abbrev pub secondWins : Outline → Outline → Bool
 secondWins o p = ltb (p .width .0) (o .width .0) || (eqb (p .width .0) (o .width .0) && ltb (p .height .0) (o .height .0))
 
--- "hands back the winner's placements as a part of its own buffer"; "If measuring would refuse either folding, the part is
--- empty."
-abbrev pub winnerOf : ℕ → Answer Outline → Answer Outline → List ℕ → List ℕ → List ℕ
-winnerOf n (refusal j) q first second = []
-winnerOf n (result o) (refusal k) first second = []
-winnerOf n (result o) (result p) first second = cond (secondWins o p) (take (3 * n) second) (take (3 * n) first)
+-- Which of two measured foldings wins. "If measuring would refuse either folding", neither does.
+abbrev pub winnerIs : Answer Outline → Answer Outline → Winner
+winnerIs (refusal j) q = Neither
+winnerIs (result o) (refusal k) = Neither
+winnerIs (result o) (result p) = cond (secondWins o p) Second First
+
+-- "hands back the winner's placements as a part of its own buffer", or an empty part: with n placements, of three numbers
+-- each.
+abbrev pub winnersPart : ℕ → Winner → List ℕ → List ℕ → List ℕ
+winnersPart n First first second = take (3 * n) first
+winnersPart n Second first second = take (3 * n) second
+winnersPart n Neither first second = []
 
 abbrev pub chosenIn : Kind → List ℕ → List ℕ → Answer (List Component) → List ℕ
 chosenIn kind first second (refusal k) = []
-chosenIn kind first second (result cs) = winnerOf (length cs) (measureIn kind cs first) (measureIn kind cs second) first second
+chosenIn kind first second (result cs) =
+    winnersPart (length cs) (winnerIs (measureIn kind cs first) (measureIn kind cs second)) first second
 
 abbrev pub chooseOf : Kind → List ℕ → List ℕ → List ℕ → List ℕ
 chooseOf kind file first second = chosenIn kind first second (checkOf kind file)

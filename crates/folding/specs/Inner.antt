@@ -7,13 +7,11 @@ use lib.ListN.{length, getD, take}
 use lib.Dec.{leb, ltb}
 use Rattle.terms.specs.Numbers.{mostApart}
 use Rattle.terms.specs.declared.Kind.{Kind}
-use Rattle.terms.specs.Answer.{Answer, refusal, result}
+use Rattle.terms.specs.Answer.{Answer}
 use Rattle.terms.specs.Component.{tabulate, componentIn, componentsIn}
 use Rattle.folding.specs.declared.Placed.{Placed}
 use Rattle.folding.specs.declared.Outline.{Outline}
-use Rattle.folding.specs.declared.Winner.{Winner}
-use Rattle.folding.specs.declared.Winner.the-variants.{First, Second, Neither}
-use Rattle.folding.specs.Calls.{measureIn, secondWins}
+use Rattle.folding.specs.Calls.{measureIn}
 use Rattle.folding.specs.Legal.{mostStart, legal}
 use Rattle.folding.specs.Placement.{placementAt}
 use Rattle.folding.specs.Outline.{groupHeight, widthIn, heightIn}
@@ -129,9 +127,3 @@ pub record Legalised (hs ws gs flat : List ℕ) : Type 0 where
   pub stack : StackIn hs ws gs
   pub flat-long : 3 * length hs ≤ length flat
   pub is-legal : (kind : Kind) × (legal kind (placedIn hs ws gs flat) ≡ true)
-
--- Which of two measured foldings wins.
-abbrev pub winnerIs : Answer Outline → Answer Outline → Winner
-winnerIs (refusal j) q = Neither
-winnerIs (result o) (refusal k) = Neither
-winnerIs (result o) (result p) = cond (secondWins o p) Second First

@@ -9,9 +9,10 @@ ghost use Rattle.terms.specs.Component.{componentsIn};
 ghost use Rattle.folding.specs.Placement.{heightOf, groupOf, startOf, endOf, left};
 ghost use Rattle.folding.specs.Legal.{mostStart, inRange, onSide, sameGroup, inOrder, leftFirst, leftClear, rightClear, legal};
 ghost use Rattle.folding.specs.Outline.{greatest, groupWidth, groupHeight};
-ghost use Rattle.folding.specs.Calls.{measuredAnswer, measureIn, measureOf, chooseOf, secondWins};
-ghost use Rattle.folding.specs.Inner.{placedAt, placedIn, endAt, shareAt, sumAt, sumAtStart, outlineIn, measureFirst, winnerIs};
+ghost use Rattle.folding.specs.Calls.{measuredAnswer, measureIn, measureOf, chooseOf, secondWins, winnerIs};
+ghost use Rattle.folding.specs.Inner.{placedAt, placedIn, endAt, shareAt, sumAt, sumAtStart, outlineIn, measureFirst};
 ghost use Rattle.folding.specs.Inner.{Listed, StandsAt, Topped, GroupEnd, Lefts, GroupFlat, HeightIs, GroupIn, StackIn, FirstIn, Legalised};
+use numbers::component;
 use numbers::larger;
 use numbers::wide;
 use terms::Component;
@@ -53,11 +54,7 @@ fn placed_at(heights: &[u16], widths: &[u16], gaps: &[u16], flat: &[u32], i: usi
     ensures { λ r. ⌜ heightOf r < 65536 ⌝ }
 {
     Placed {
-        component: Component {
-            height: Rows(wide(heights[i])),
-            width: Slices(wide(widths[i])),
-            gap: Rows(wide(gaps[i])),
-        },
+        component: component(heights, widths, gaps, i),
         placement: Placement {
             group: flat[3 * i],
             side: flat[3 * i + 1],
@@ -383,7 +380,7 @@ pub fn measure(file: &[u8], kind: Kind, flat: &[u32]) -> Measured
     }
 }
 
-pub fn second_wins(o: Outline, p: Outline) -> bool
+fn second_wins(o: Outline, p: Outline) -> bool
     ensures { λ r. ⌜ r ≡ secondWins o p ⌝ }
 {
     if p.width.0 < o.width.0 {
@@ -395,14 +392,15 @@ pub fn second_wins(o: Outline, p: Outline) -> bool
     false
 }
 
-// The first or the second of two measured foldings, or neither.
-enum Winner {
+// The first or the second of two foldings, or neither.
+pub enum Winner {
     First,
     Second,
     Neither,
 }
 
-fn better(first: Measured, second: Measured) -> Winner
+// Which of two measured foldings wins, or neither where measuring refused one of them.
+pub fn better(first: Measured, second: Measured) -> Winner
     ensures { λ r. ⌜ r ≡ winnerIs (measuredAnswer first) (measuredAnswer second) ⌝ }
 {
     match first {
@@ -419,7 +417,7 @@ fn better(first: Measured, second: Measured) -> Winner
     }
 }
 
-// Which of two foldings wins, or none where measuring would refuse one of them.
+// Which of two foldings of the stack in the first n entries of three lists wins.
 fn better_of(
     kind: Kind,
     n: usize,

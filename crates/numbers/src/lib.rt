@@ -3,7 +3,12 @@ ghost use mathlib.Core.Path.{_≡_};
 ghost use Prim.Native.Nat.{_+_, _*_, _≤_, _<_, min, max};
 ghost use lib.ListN.{length, getD};
 ghost use Rattle.terms.specs.Numbers.{mostNested};
+ghost use Rattle.terms.specs.Component.{componentIn};
+ghost use Rattle.numbers.specs.Columns.{InLists};
 ghost use Rattle.numbers.specs.Table.{stride, cells};
+use terms::Component;
+use terms::Rows;
+use terms::Slices;
 
 // The entries of a row of a table: one more than a group that is folded may have components.
 pub const STRIDE: usize = terms::MOST_NESTED + 1;
@@ -21,6 +26,19 @@ pub fn get(column: &[u16], i: usize) -> u32
     ensures { λ r. ⌜ r < 65536 ⌝ }
 {
     wide(column[i])
+}
+
+// The component at one place of three columns.
+pub fn component(heights: &[u16], widths: &[u16], gaps: &[u16], i: usize) -> Component
+    requires { ⌜ InLists i (now heights) (now widths) (now gaps) ⌝ }
+    ensures { λ r. ⌜ r ≡ componentIn (now (heights .entry)) (now (widths .entry)) (now (gaps .entry)) i ⌝ }
+    ensures { λ r. ⌜ r .height .0 < 65536 ⌝ }
+{
+    Component {
+        height: Rows(get(heights, i)),
+        width: Slices(get(widths, i)),
+        gap: Rows(get(gaps, i)),
+    }
 }
 
 pub fn cell(table: &[u32], p: usize, q: usize) -> u32

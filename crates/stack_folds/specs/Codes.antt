@@ -11,7 +11,8 @@ use Rattle.terms.specs.declared.Kind.{Kind}
 use Rattle.terms.specs.declared.Kind.the-variants.{Apart, Nested}
 use Rattle.terms.specs.Answer.{Answer, refusal, result}
 use Rattle.folding.specs.declared.Outline.{Outline}
-use Rattle.folding.specs.Calls.{secondWins}
+use Rattle.folding.specs.declared.Winner.{Winner}
+use Rattle.folding.specs.declared.Winner.the-variants.{First, Second, Neither}
 use Rattle.stack_folds.specs.declared.Count.{Count}
 use Rattle.stack_folds.specs.declared.Extent.{Extent}
 use Rattle.stack_folds.specs.declared.Part.{Part}
@@ -54,7 +55,7 @@ partCode (result cs) number =
     (record { start = 0; length = 0 })
 
 -- Choose: 1 for the first, 2 for the second, 0 where measuring would refuse either.
-abbrev pub choiceCode : Answer Outline → Answer Outline → ℕ
-choiceCode (refusal j) q = 0
-choiceCode (result o) (refusal k) = 0
-choiceCode (result o) (result p) = cond (secondWins o p) 2 1
+abbrev pub choiceCode : Winner → ℕ
+choiceCode First = 1
+choiceCode Second = 2
+choiceCode Neither = 0

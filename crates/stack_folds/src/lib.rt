@@ -1,5 +1,6 @@
 // The calls for C and Rust: numbers and slices only.
 use folding::Measured;
+use folding::Winner;
 use terms::Counted;
 use terms::Kind;
 use terms::Rows;
@@ -12,7 +13,7 @@ ghost use Rattle.terms.specs.declared.Kind.the-variants.{Apart};
 ghost use Rattle.stack.specs.File.{checkOf};
 ghost use Rattle.stack.specs.Calls.{Read, lookupOf};
 ghost use Rattle.stack_write.specs.Call.{Wrote};
-ghost use Rattle.folding.specs.Calls.{measuredAnswer, measureOf};
+ghost use Rattle.folding.specs.Calls.{measuredAnswer, measureOf, winnerIs};
 ghost use Rattle.fold.specs.Calls.{ToHeight, ToWidth};
 ghost use Rattle.fold_table.specs.Calls.{TableOf};
 ghost use Rattle.stack_folds.specs.Codes.{kindOf, countCode, outlineCode, countOfCode, outlineOfCode, PlainCount, PlainOutline, partCode, choiceCode};
@@ -154,34 +155,26 @@ pub extern "C" fn folds_measure(file: &[u8], nested: bool, placements: &[u32]) -
     measured(folding::measure(file, kind_of(nested), placements))
 }
 
-fn choice(a: Measured, b: Measured) -> u32
-    ensures { λ r. ⌜ r ≡ choiceCode (measuredAnswer a) (measuredAnswer b) ⌝ }
+fn choice(w: Winner) -> u32
+    ensures { λ r. ⌜ r ≡ choiceCode w ⌝ }
 {
-    match a {
-        Measured::Refused(_) => 0,
-        Measured::Outlined(o) => match b {
-            Measured::Refused(_) => 0,
-            Measured::Outlined(p) => {
-                if folding::second_wins(o, p) {
-                    return 2;
-                }
-                1
-            }
-        },
+    match w {
+        Winner::First => 1,
+        Winner::Second => 2,
+        Winner::Neither => 0,
     }
 }
 
 #[no_mangle]
 pub extern "C" fn folds_choose(file: &[u8], nested: bool, first: &[u32], second: &[u32]) -> u32
-    ensures { λ r. ⌜ r ≡ choiceCode
+    ensures { λ r. ⌜ r ≡ choiceCode (winnerIs
         (measureOf (kindOf nested) (now (file .entry)) (now (first .entry)))
-        (measureOf (kindOf nested) (now (file .entry)) (now (second .entry))) ⌝ }
+        (measureOf (kindOf nested) (now (file .entry)) (now (second .entry)))) ⌝ }
 {
     let kind = kind_of(nested);
-    choice(
-        folding::measure(file, kind, first),
-        folding::measure(file, kind, second),
-    )
+    let a = folding::measure(file, kind, first);
+    let b = folding::measure(file, kind, second);
+    choice(folding::better(a, b))
 }
 
 #[no_mangle]

@@ -1,17 +1,11 @@
 -- What the functions inside this crate promise each other. Nothing here is part of a public promise.
-use Prim.Native.Nat.{ℕ, _*_, _≤_, _<_}
+use Prim.Native.Nat.{ℕ, _*_, _≤_}
 use mathlib.Core.Path.{_≡_}
 use mathlib.Core.List.{List, _++_}
 use lib.ListN.{length, drop}
 use Rattle.terms.specs.Numbers.{mostApart}
 use Rattle.terms.specs.Component.{componentsIn}
 use Rattle.stack_write.specs.File.{bytesOf}
-
--- Entry i stands in each of the writer's lists.
-pub record InLists (i : ℕ) (heights widths gaps : List ℕ) : Type 0 where
-  pub in-heights : i < length heights
-  pub in-widths : i < length widths
-  pub in-gaps : i < length gaps
 
 -- The writer's lists are equally long.
 pub record Lists (heights widths gaps : List ℕ) : Type 0 where

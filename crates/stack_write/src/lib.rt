@@ -5,37 +5,18 @@ ghost use Prim.Native.Nat.{_+_, _*_, _≤_, _<_};
 ghost use lib.ListN.{length, drop};
 ghost use Rattle.terms.specs.Numbers.{mostApart};
 ghost use Rattle.terms.specs.Answer.{countAnswer};
-ghost use Rattle.terms.specs.Component.{mostOf, ruleOf, every, stackOf, countOf, componentIn, componentsIn};
+ghost use Rattle.terms.specs.Component.{mostOf, ruleOf, every, stackOf, countOf, componentsIn};
 ghost use Rattle.terms.specs.declared.Kind.the-variants.{Apart};
 ghost use Rattle.stack_write.specs.File.{low, high, bytesOf, headed};
 ghost use Rattle.stack_write.specs.Call.{Wrote};
-ghost use Rattle.stack_write.specs.Inner.{InLists, Lists, Writable, bodyInto};
+ghost use Rattle.stack_write.specs.Inner.{Lists, Writable, bodyInto};
+use numbers::component;
 use terms::Component;
 use terms::Counted;
 use terms::Kind;
 use terms::Position;
 use terms::Refusal;
-use terms::Rows;
 use terms::Rule;
-use terms::Slices;
-
-fn wide(x: u16) -> u32
-    ensures { λ r. ⌜ r ≡ x ⌝ }
-{
-    x as u32
-}
-
-fn component_in(heights: &[u16], widths: &[u16], gaps: &[u16], p: Position) -> Component
-    requires { ⌜ InLists (p .before) (now heights) (now widths) (now gaps) ⌝ }
-    ensures { λ r. ⌜ r ≡ componentIn (now (heights .entry)) (now (widths .entry)) (now (gaps .entry)) (p .before) ⌝ }
-{
-    let i = p.before;
-    Component {
-        height: Rows(wide(heights[i])),
-        width: Slices(wide(widths[i])),
-        gap: Rows(wide(gaps[i])),
-    }
-}
 
 // Whether each component of the lists keeps the rule.
 fn lists_stand(heights: &[u16], widths: &[u16], gaps: &[u16], rule: Rule) -> bool
@@ -46,7 +27,7 @@ fn lists_stand(heights: &[u16], widths: &[u16], gaps: &[u16], rule: Rule) -> boo
     let n = heights.len();
     let mut p = Position::first();
     while p.before < n {
-        let c = component_in(heights, widths, gaps, p);
+        let c = component(heights, widths, gaps, p.before);
         let last = p.before + 1 == n;
         if !terms::stands(rule, c, last) {
             return false;
@@ -123,7 +104,7 @@ fn put_components(heights: &[u16], widths: &[u16], gaps: &[u16], out: &mut [u8])
     let n = heights.len();
     let mut p = Position::first();
     while p.before < n {
-        let c = component_in(heights, widths, gaps, p);
+        let c = component(heights, widths, gaps, p.before);
         let from = 6 * p.before;
         put_component(&mut out[from..], c);
         p = p.next();

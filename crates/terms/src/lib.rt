@@ -110,7 +110,7 @@ pub fn most(kind: Kind) -> usize
     }
 }
 
-pub fn in_size(x: u32) -> bool
+fn in_size(x: u32) -> bool
     ensures { λ r. ⌜ r ≡ inSize x ⌝ }
 {
     if 1 <= x {
@@ -125,7 +125,7 @@ pub enum Rule {
     Gap,
 }
 
-pub fn size_stands(c: Component) -> bool
+fn size_stands(c: Component) -> bool
     ensures { λ r. ⌜ r ≡ goodSize c true ⌝ }
 {
     if in_size(c.height.0) {
@@ -134,7 +134,7 @@ pub fn size_stands(c: Component) -> bool
     false
 }
 
-pub fn gap_stands(c: Component, last: bool) -> bool
+fn gap_stands(c: Component, last: bool) -> bool
     ensures { λ r. ⌜ r ≡ goodGap c last ⌝ }
 {
     if last {

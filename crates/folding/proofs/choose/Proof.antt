@@ -1,8 +1,7 @@
-use Rattle.folding.proofs.Choosing.{chose-refused, first-long, chose-first, second-long, chose-second, chose-none}
+use Rattle.folding.proofs.Choosing.{chose-refused, chose, first-long, second-long}
 use lib.Seq.{length-take-le}
 use Rattle.folding.proofs.Measuring.{held-few, first-held, components-held}
-use Rattle.folding.specs.Calls.{measureIn}
-use Rattle.folding.specs.Inner.{winnerIs}
+use Rattle.folding.specs.Calls.{measureIn, winnerIs}
 use Rattle.terms.specs.Answer.{countAnswer}
 use Rattle.stack.proofs.Reading.{Held, read-held, read-refused}
 use native.Mathlib.Omega.{arith}
@@ -87,17 +86,17 @@ returns c = chose-refused (c .before .before .before .before .before .before .be
 returns-2 : tie.Need-returns-2
 returns-2 c = let h = held ((c .before .before .before .before .before .before .before)) in
     let w = sym (outcome ((c .before .before .before))) ∙ c .before .enum-told2 .given .1 in
-    chose-first (c .before .before .before .before .before .before .before .before .before .before .before .before .before .before .before .before .before .before .before .before .args .kind) (now (c .before .before .before .before .before .before .before .before .before .before .before .before .before .before .before .before .before .before .before .before .args .file)) (now (c .before .before .before .before .before .before .before .before .before .before .before .before .before .before .before .before .before .before .before .before .args .first)) (now (c .before .before .before .before .before .before .before .before .before .before .before .before .before .before .before .before .before .before .before .before .args .second)) (h .components) _ (h .checked) (h .count) w
+    chose (c .before .before .before .before .before .before .before .before .before .before .before .before .before .before .before .before .before .before .before .before .args .kind) (now (c .before .before .before .before .before .before .before .before .before .before .before .before .before .before .before .before .before .before .before .before .args .file)) (now (c .before .before .before .before .before .before .before .before .before .before .before .before .before .before .before .before .before .before .before .before .args .first)) (now (c .before .before .before .before .before .before .before .before .before .before .before .before .before .before .before .before .before .before .before .before .args .second)) (h .components) _ (h .checked) (h .count) _ w
 
 returns-3 : tie.Need-returns-3
 returns-3 c = let h = held ((c .before .before .before .before .before .before .before)) in
     let w = sym (outcome ((c .before .before .before))) ∙ c .before .enum-told3 .given .1 in
-    chose-second (c .before .before .before .before .before .before .before .before .before .before .before .before .before .before .before .before .before .before .before .before .args .kind) (now (c .before .before .before .before .before .before .before .before .before .before .before .before .before .before .before .before .before .before .before .before .args .file)) (now (c .before .before .before .before .before .before .before .before .before .before .before .before .before .before .before .before .before .before .before .before .args .first)) (now (c .before .before .before .before .before .before .before .before .before .before .before .before .before .before .before .before .before .before .before .before .args .second)) (h .components) _ (h .checked) (h .count) w
+    chose (c .before .before .before .before .before .before .before .before .before .before .before .before .before .before .before .before .before .before .before .before .args .kind) (now (c .before .before .before .before .before .before .before .before .before .before .before .before .before .before .before .before .before .before .before .before .args .file)) (now (c .before .before .before .before .before .before .before .before .before .before .before .before .before .before .before .before .before .before .before .before .args .first)) (now (c .before .before .before .before .before .before .before .before .before .before .before .before .before .before .before .before .before .before .before .before .args .second)) (h .components) _ (h .checked) (h .count) _ w
 
 returns-4 : tie.Need-returns-4
 returns-4 c = let h = held ((c .before .before .before .before .before .before .before)) in
     let w = sym (outcome ((c .before .before .before))) ∙ c .before .enum-told4 .given .1 in
-    chose-none (c .before .before .before .before .before .before .before .before .before .before .before .before .before .before .before .before .before .before .before .before .args .kind) (now (c .before .before .before .before .before .before .before .before .before .before .before .before .before .before .before .before .before .before .before .before .args .file)) (now (c .before .before .before .before .before .before .before .before .before .before .before .before .before .before .before .before .before .before .before .before .args .first)) (now (c .before .before .before .before .before .before .before .before .before .before .before .before .before .before .before .before .before .before .before .before .args .second)) (h .components) _ (h .checked) (h .count) w
+    chose (c .before .before .before .before .before .before .before .before .before .before .before .before .before .before .before .before .before .before .before .before .args .kind) (now (c .before .before .before .before .before .before .before .before .before .before .before .before .before .before .before .before .before .before .before .before .args .file)) (now (c .before .before .before .before .before .before .before .before .before .before .before .before .before .before .before .before .before .before .before .before .args .first)) (now (c .before .before .before .before .before .before .before .before .before .before .before .before .before .before .before .before .before .before .before .before .args .second)) (h .components) _ (h .checked) (h .count) _ w
 
 pub choose-spec : {M : Type 1} → statement M
 choose-spec =

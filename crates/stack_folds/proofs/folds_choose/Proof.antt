@@ -11,13 +11,22 @@ measure-requires c κs = search needs
 measure-requires-2 : tie.Need-measure-requires-2
 measure-requires-2 c κs = search needs
 
+better-requires : tie.Need-better-requires
+better-requires c κs = search needs
+
 choice-requires : tie.Need-choice-requires
 choice-requires c κs = search needs
 
 returns : tie.Need-returns
-returns c = rw (c .choice .ensures, c .before .before .measure .ensures, c .before .measure2 .ensures, c .before .before .before .kind-of .ensures)
+returns c = rw (c .choice .ensures, c .before .better .ensures, c .before .before .before .measure .ensures, c .before .before .measure2 .ensures, c .before .before .before .before .kind-of .ensures)
 
 pub folds-choose-spec : {M : Type 1} → statement M
 folds-choose-spec =
     tie.close
-    (tie.spec kind-of-requires measure-requires measure-requires-2 choice-requires returns)
+    (tie.spec
+    kind-of-requires
+    measure-requires
+    measure-requires-2
+    better-requires
+    choice-requires
+    returns)

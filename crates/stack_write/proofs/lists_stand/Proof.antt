@@ -24,8 +24,8 @@ first-requires c κs = search needs
 loop-holds : tie.Need-loop-holds Inv-loop μ-loop
 loop-holds c = let e = c .first .ensures in (omega arith, rw e)
 
-component-in-requires : tie.Need-component-in-requires Inv-loop μ-loop
-component-in-requires c κs = omega arith
+component-requires : tie.Need-component-requires Inv-loop μ-loop
+component-requires c κs = omega arith
 
 add-last : tie.Need-add-last Inv-loop μ-loop
 add-last c = search needs
@@ -34,7 +34,7 @@ stands-requires : tie.Need-stands-requires Inv-loop μ-loop
 stands-requires c κs = search needs
 
 returns : tie.Need-returns Inv-loop μ-loop
-returns c = every-broken _ _ _ _ (c .before .before .before .before .if1 .taken) (rw (← c .before .before .before .component-in .ensures) (sym (c .before .stands .ensures) ∙ not-true _ (c .if2 .taken))) (c .before .before .before .before .before .before .loop .inv .1)
+returns c = every-broken _ _ _ _ (c .before .before .before .before .if1 .taken) (rw (← c .before .before .before .component .ensures .0) (sym (c .before .stands .ensures) ∙ not-true _ (c .if2 .taken))) (c .before .before .before .before .before .before .loop .inv .1)
 
 next-requires : tie.Need-next-requires Inv-loop μ-loop
 next-requires c κs = search needs
@@ -44,7 +44,7 @@ loop-less c = omega (arith, c .next .ensures ∙ moves (c .before .before .befor
 
 loop-again : tie.Need-loop-again Inv-loop μ-loop
 loop-again c = let m = c .next .ensures ∙ moves (c .before .before .before .before .before .before .before .loop .p .before) (omega arith) in
-    (omega arith, rw m (every-kept _ _ _ _ (c .before .before .before .before .before .if1 .taken) (rw (← c .before .before .before .before .component-in .ensures) (sym (c .before .before .stands .ensures) ∙ not-false _ (c .before .if2 .left))) (c .before .before .before .before .before .before .before .loop .inv .1)))
+    (omega arith, rw m (every-kept _ _ _ _ (c .before .before .before .before .before .if1 .taken) (rw (← c .before .before .before .before .component .ensures .0) (sym (c .before .before .stands .ensures) ∙ not-false _ (c .before .if2 .left))) (c .before .before .before .before .before .before .before .loop .inv .1)))
 
 returns-2 : tie.Need-returns-2 Inv-loop μ-loop
 returns-2 c = every-done _ _ _ _ (c .if1 .left) (c .before .before .loop .inv .1)
@@ -57,7 +57,7 @@ lists-stand-spec =
     μ-loop
     first-requires
     loop-holds
-    component-in-requires
+    component-requires
     add-last
     stands-requires
     returns

@@ -22,8 +22,8 @@ first-requires c κs = search needs
 loop-holds : tie.Need-loop-holds Inv-loop μ-loop
 loop-holds c = let e = c .first .ensures in (omega arith, refl, rw e (sym (written-none (componentIn (now (c .before .before .before .before .before .args .heights)) (now (c .before .before .before .before .before .args .widths)) (now (c .before .before .before .before .before .args .gaps))) (now (c .before .before .before .before .before .args .out)))))
 
-component-in-requires : tie.Need-component-in-requires Inv-loop μ-loop
-component-in-requires c κs = omega arith
+component-requires : tie.Need-component-requires Inv-loop μ-loop
+component-requires c κs = omega arith
 
 mul-from : tie.Need-mul-from Inv-loop μ-loop
 mul-from c = search needs
@@ -48,7 +48,7 @@ loop-less c = omega (arith, c .next .ensures ∙ moves (c .before .before .befor
 
 loop-again : tie.Need-loop-again Inv-loop μ-loop
 loop-again c = let m = c .next .ensures ∙ moves (c .before .before .before .before .before .before .before .before .before .loop .p .before) (omega arith) in
-    (omega arith, c .before .before .out .given .1 ∙ c .before .before .before .before .before .before .before .before .before .loop .inv .1, rw m (written-more _ _ (c .before .before .before .before .before .before .before .before .before .loop .p .before) _ (c .before .before .before .before .before .before .before .before .before .loop .out) _ (omega arith) (c .before .before .before .before .before .before .before .before .before .loop .inv .2) (c .before .before .before .before .before .before .component-in .ensures) (c .before .before .before .put-component .ensures)))
+    (omega arith, c .before .before .out .given .1 ∙ c .before .before .before .before .before .before .before .before .before .loop .inv .1, rw m (written-more _ _ (c .before .before .before .before .before .before .before .before .before .loop .p .before) _ (c .before .before .before .before .before .before .before .before .before .loop .out) _ (omega arith) (c .before .before .before .before .before .before .before .before .before .loop .inv .2) (c .before .before .before .before .before .before .component .ensures .0) (c .before .before .before .put-component .ensures)))
 
 same-length : tie.Need-same-length Inv-loop μ-loop
 same-length c = search needs
@@ -64,7 +64,7 @@ put-components-spec =
     μ-loop
     first-requires
     loop-holds
-    component-in-requires
+    component-requires
     mul-from
     sub-put-component
     part-put-component-start
