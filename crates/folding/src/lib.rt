@@ -80,11 +80,11 @@ fn stands_alone(kind: Kind, x: Placed) -> bool
     }
 }
 
-fn end_of(x: Placed) -> u32
+fn end_of(x: Placed) -> Rows
     requires { ⌜ (startOf x ≤ mostStart) × (heightOf x < 65536) ⌝ }
-    ensures { λ r. ⌜ r ≡ endOf x ⌝ }
+    ensures { λ r. ⌜ r .0 ≡ endOf x ⌝ }
 {
-    x.placement.start + x.component.height.0
+    Rows(x.placement.start + x.component.height.0)
 }
 
 // Whether y may follow x, where both are in one group.
@@ -98,14 +98,14 @@ fn stands_behind(x: Placed, y: Placed) -> bool
     let q = y.placement;
     if p.side == 0 {
         if q.side == 0 {
-            return end_of(y) <= p.start;
+            return end_of(y).0 <= p.start;
         }
         return true;
     }
     if q.side == 0 {
         return false;
     }
-    end_of(x) <= q.start
+    end_of(x).0 <= q.start
 }
 
 fn may_follow(x: Placed, y: Placed) -> bool
@@ -180,72 +180,73 @@ fn group_end(flat: &[u32], n: usize, from: usize) -> usize
     to
 }
 
-fn end_at(heights: &[u16], flat: &[u32], i: usize) -> u32
+fn end_at(heights: &[u16], flat: &[u32], i: usize) -> Rows
     requires { ⌜ StandsAt (now heights) (now flat) i ⌝ }
-    ensures { λ r. ⌜ r ≡ endAt (now (heights .entry)) (now (flat .entry)) i ⌝ }
-    ensures { λ r. ⌜ r ≤ 1089535 ⌝ }
+    ensures { λ r. ⌜ r .0 ≡ endAt (now (heights .entry)) (now (flat .entry)) i ⌝ }
+    ensures { λ r. ⌜ r .0 ≤ mostStart + 65535 ⌝ }
 {
-    flat[3 * i + 2] + wide(heights[i])
+    Rows(flat[3 * i + 2] + wide(heights[i]))
 }
 
 // T: one more than the highest row of the group.
-fn top(heights: &[u16], flat: &[u32]) -> u32
+fn top(heights: &[u16], flat: &[u32]) -> Rows
     requires { ⌜ Topped (now heights) (now flat) ⌝ }
-    ensures { λ r. ⌜ r ≡ greatest (endAt (now (heights .entry)) (now (flat .entry))) (length (now (heights .entry))) ⌝ }
-    ensures { λ r. ⌜ r ≤ 1089535 ⌝ }
+    ensures { λ r. ⌜ r .0 ≡ greatest (endAt (now (heights .entry)) (now (flat .entry))) (length (now (heights .entry))) ⌝ }
+    ensures { λ r. ⌜ r .0 ≤ mostStart + 65535 ⌝ }
 {
     let mut t = 0;
     let mut i = 0;
     while i < heights.len() {
-        t = larger(t, end_at(heights, flat, i));
+        t = larger(t, end_at(heights, flat, i).0);
         i += 1;
     }
-    t
+    Rows(t)
 }
 
 // What component i adds to the sum of a row.
-fn share(heights: &[u16], widths: &[u16], flat: &[u32], row: u32, i: usize) -> u32
+fn share(heights: &[u16], widths: &[u16], flat: &[u32], row: Rows, i: usize) -> Slices
     requires { ⌜ StandsAt (now heights) (now flat) i × (i < length (now widths)) ⌝ }
-    ensures { λ r. ⌜ r ≡ shareAt (now (heights .entry)) (now (widths .entry)) (now (flat .entry)) row i ⌝ }
-    ensures { λ r. ⌜ r ≤ 65535 ⌝ }
+    ensures { λ r. ⌜ r .0 ≡ shareAt (now (heights .entry)) (now (widths .entry)) (now (flat .entry)) (row .0) i ⌝ }
+    ensures { λ r. ⌜ r .0 ≤ 65535 ⌝ }
 {
-    if flat[3 * i + 2] <= row {
-        if row < end_at(heights, flat, i) {
-            return wide(widths[i]);
+    if flat[3 * i + 2] <= row.0 {
+        if row.0 < end_at(heights, flat, i).0 {
+            return Slices(wide(widths[i]));
         }
     }
-    0
+    Slices(0)
 }
 
 // The sum of the widths that lie in a row.
-fn row_sum(heights: &[u16], widths: &[u16], flat: &[u32], row: u32) -> u32
+fn row_sum(heights: &[u16], widths: &[u16], flat: &[u32], row: Rows) -> Slices
     requires { ⌜ Topped (now heights) (now flat) × (length (now widths) ≡ length (now heights)) ⌝ }
-    ensures { λ r. ⌜ r ≡ sumAt (now (heights .entry)) (now (widths .entry)) (now (flat .entry)) row ⌝ }
-    ensures { λ r. ⌜ r ≤ 65535 * length (now (heights .entry)) ⌝ }
+    ensures { λ r. ⌜ r .0 ≡ sumAt (now (heights .entry)) (now (widths .entry)) (now (flat .entry)) (row .0) ⌝ }
+    ensures { λ r. ⌜ r .0 ≤ 65535 * length (now (heights .entry)) ⌝ }
 {
     let mut sum = 0;
     let mut i = 0;
     while i < heights.len() {
-        sum += share(heights, widths, flat, row, i);
+        sum += share(heights, widths, flat, row, i).0;
         i += 1;
     }
-    sum
+    Slices(sum)
 }
 
 // The greatest row sum of a group: it occurs at a row where a component starts.
-fn group_width(heights: &[u16], widths: &[u16], flat: &[u32]) -> u32
+fn group_width(heights: &[u16], widths: &[u16], flat: &[u32]) -> Slices
     requires { ⌜ Topped (now heights) (now flat) × (length (now widths) ≡ length (now heights)) ⌝ }
-    ensures { λ r. ⌜ r
+    ensures { λ r. ⌜ r .0
         ≡ greatest (sumAtStart (now (heights .entry)) (now (widths .entry)) (now (flat .entry))) (length (now (heights .entry))) ⌝ }
-    ensures { λ r. ⌜ r ≤ 65535 * length (now (heights .entry)) ⌝ }
+    ensures { λ r. ⌜ r .0 ≤ 65535 * length (now (heights .entry)) ⌝ }
 {
     let mut width = 0;
     let mut i = 0;
     while i < heights.len() {
-        width = larger(width, row_sum(heights, widths, flat, flat[3 * i + 2]));
+        let sum = row_sum(heights, widths, flat, Rows(flat[3 * i + 2]));
+        width = larger(width, sum.0);
         i += 1;
     }
-    width
+    Slices(width)
 }
 
 // How many components of a group are on the left before the first on the right.
@@ -263,18 +264,19 @@ fn lefts(flat: &[u32], n: usize) -> usize
     k
 }
 
-fn group_height(heights: &[u16], gaps: &[u16], flat: &[u32], before: u32) -> u32
-    requires { ⌜ GroupFlat (now heights) (now gaps) (now flat) × (before ≤ 65535) ⌝ }
-    ensures { λ r. ⌜ HeightIs before (now (heights .entry)) (now (gaps .entry)) (now (flat .entry)) r ⌝ }
+fn group_height(heights: &[u16], gaps: &[u16], flat: &[u32], before: Rows) -> Rows
+    requires { ⌜ GroupFlat (now heights) (now gaps) (now flat) × (before .0 ≤ 65535) ⌝ }
+    ensures { λ r. ⌜ HeightIs (before .0) (now (heights .entry)) (now (gaps .entry)) (now (flat .entry)) (r .0) ⌝ }
 {
     let n = heights.len();
-    let t = top(heights, flat);
-    let last = wide(gaps[n - 1]);
+    let t = top(heights, flat).0;
+    let g0 = before.0;
+    let g1 = wide(gaps[n - 1]);
     let k = lefts(flat, n);
     if k < n {
-        return t + larger(before, last) + wide(gaps[k - 1]);
+        return Rows(t + larger(g0, g1) + wide(gaps[k - 1]));
     }
-    t + before + last
+    Rows(t + g0 + g1)
 }
 
 // The width and the height of one group, with the gap before it.
@@ -283,18 +285,18 @@ fn group_outline(
     widths: &[u16],
     gaps: &[u16],
     flat: &[u32],
-    before: u32,
+    before: Rows,
 ) -> Outline
-    requires { ⌜ GroupIn (now heights) (now widths) (now gaps) (now flat) × (before ≤ 65535) ⌝ }
+    requires { ⌜ GroupIn (now heights) (now widths) (now gaps) (now flat) × (before .0 ≤ 65535) ⌝ }
     ensures { λ r. ⌜ r .width .0
         ≡ groupWidth (placedIn (now (heights .entry)) (now (widths .entry)) (now (gaps .entry)) (now (flat .entry))) ⌝ }
     ensures { λ r. ⌜ r .height .0
-        ≡ groupHeight before (placedIn (now (heights .entry)) (now (widths .entry)) (now (gaps .entry)) (now (flat .entry))) ⌝ }
+        ≡ groupHeight (before .0) (placedIn (now (heights .entry)) (now (widths .entry)) (now (gaps .entry)) (now (flat .entry))) ⌝ }
     ensures { λ r. ⌜ r .width .0 ≤ 65535 * length (now (heights .entry)) ⌝ }
 {
     Outline {
-        width: Slices(group_width(heights, widths, flat)),
-        height: Rows(group_height(heights, gaps, flat, before)),
+        width: group_width(heights, widths, flat),
+        height: group_height(heights, gaps, flat, before),
     }
 }
 
@@ -318,7 +320,7 @@ fn outline_of(heights: &[u16], widths: &[u16], gaps: &[u16], flat: &[u32]) -> Ou
             &widths[from..to],
             &gaps[from..to],
             &flat[a..b],
-            before,
+            Rows(before),
         );
         width += group.width.0;
         height = larger(height, group.height.0);

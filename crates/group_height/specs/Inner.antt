@@ -6,6 +6,7 @@ use lib.ListN.{length, getD}
 use Rattle.numbers.specs.Table.{stride, cells}
 use Rattle.terms.specs.Numbers.{mostSize, mostNested}
 use Rattle.group.specs.Group.{lowest}
+use Rattle.group.specs.Table.{mostEntry}
 
 -- The heights of a group by its table: without a fold, and with a fold behind the first p components.
 abbrev pub flatBy : ℕ → List ℕ → List ℕ → ℕ
@@ -21,7 +22,7 @@ pub record PassAsks (g0 : ℕ) (gs es : List ℕ) : Type 0 where
   pub room : cells ≤ length es
   pub gaps-low : (i : ℕ) → getD gs i 0 ≤ mostSize
   pub first-low : g0 ≤ mostSize
-  pub small : (p : ℕ) → p < length gs → getD es (p * stride + p) 0 ≤ 512000
+  pub small : (p : ℕ) → p < length gs → getD es (p * stride + p) 0 ≤ mostEntry
 
 -- Where the height v is reached: without a fold, or with one behind the first p components.
 pub data Point (g0 : ℕ) (gs es : List ℕ) (v p : ℕ) : Type 0 where

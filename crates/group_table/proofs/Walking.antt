@@ -12,7 +12,7 @@ use borrow.Author.Tests.{leb-true, leb-false}
 use Rattle.terms.specs.Component.{componentIn}
 use Rattle.group.specs.Rows.{rows}
 use Rattle.group.specs.Group.{leftSide, rightSide}
-use Rattle.group.specs.Table.{bare, entry}
+use Rattle.group.specs.Table.{bare, entry, mostEntry}
 use Rattle.group.proofs.Chains.{order}
 use Rattle.group_table.specs.Inner.{Sharing, Ready, Ending, Ended}
 use Rattle.group.proofs.Indices.{at-top, at-side, at-left, at-right, at-clash, at-le}
@@ -73,7 +73,7 @@ module _ {hs ws es : List ℕ} {p q cap x y a b : ℕ} (r : Ready hs ws es cap p
   pub low : (i : ℕ) → getD hs i 0 ≤ 4000
   low = r .asks .columns .low
 
-  pub entry-le : (c d : ℕ) → c ≤ p → q ≤ d → d ≤ length hs → c + q < p + d → getD es (c * 65 + d) 0 ≤ 512000
+  pub entry-le : (c d : ℕ) → c ≤ p → q ≤ d → d ≤ length hs → c + q < p + d → getD es (c * 65 + d) 0 ≤ mostEntry
   entry-le c d l u v s = rw (r .right c d l u v s) (omega (arith, at-le (componentIn hs ws []) (length hs) low cap c d (omega (arith, r .within)) v, few, r .within))
 
   pub ending : Ending hs es x y a b

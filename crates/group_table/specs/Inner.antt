@@ -6,7 +6,7 @@ use mathlib.Core.Bool.{Bool, true, false}
 use lib.ListN.{length, getD}
 use Rattle.numbers.specs.Table.{stride, cells}
 use Rattle.terms.specs.Numbers.{mostSize, mostNested}
-use Rattle.group.specs.Table.{entry}
+use Rattle.group.specs.Table.{entry, mostEntry}
 use Rattle.group_table.specs.Table.{Asks}
 
 -- Whether the component below p and the one at q are both there and may share a row.
@@ -38,10 +38,10 @@ pub record Ending (hs es : List ℕ) (p q a b : ℕ) : Type 0 where
   pub right-in : q ≤ length hs
   pub left-low : a ≤ 256000
   pub right-low : b ≤ 256000
-  pub top : p ≡ 0 → getD es q 0 ≤ 512000
-  pub side : 0 < p → q ≡ length hs → getD es (p * stride + q) 0 ≤ 512000
-  pub left-first : 0 < p → q < length hs → getD es ((p - 1) * stride + q) 0 ≤ 512000
-  pub right-first : 0 < p → q < length hs → getD es (p * stride + (q + 1)) 0 ≤ 512000
+  pub top : p ≡ 0 → getD es q 0 ≤ mostEntry
+  pub side : 0 < p → q ≡ length hs → getD es (p * stride + q) 0 ≤ mostEntry
+  pub left-first : 0 < p → q < length hs → getD es ((p - 1) * stride + q) 0 ≤ mostEntry
+  pub right-first : 0 < p → q < length hs → getD es (p * stride + (q + 1)) 0 ≤ mostEntry
 
 pub record Ended (hs es : List ℕ) (p q a b v : ℕ) : Type 0 where
   pub top : p ≡ 0 → v ≡ b + getD es q 0

@@ -4,6 +4,8 @@
 use folding::Measured;
 use terms::Counted;
 use terms::Kind;
+use terms::LEAST_WORK;
+use terms::MOST_LIMIT;
 use terms::Rows;
 use terms::Slices;
 ghost use Prim.Native.Nat.{_+_, _*_, _/_, _≤_, _<_};
@@ -150,27 +152,27 @@ fn is_unmeetable(a: Measured) -> bool {
 // The folding for a height, and what measuring makes of it.
 fn to_height(file: &[u8], kind: Kind, limit: u32, width: u32, height: u32) -> bool {
     let mut placements = [4000000000u32; 36];
-    let mut work = [7u32; 8192];
+    let mut work = [7u32; LEAST_WORK];
     let a = fold::to_height(file, kind, Rows(limit), &mut placements, &mut work);
     is(a, width, height) && is(folding::measure(file, kind, &placements), width, height)
 }
 
 fn to_width(file: &[u8], kind: Kind, limit: u32, width: u32, height: u32) -> bool {
     let mut placements = [4000000000u32; 36];
-    let mut work = [7u32; 8192];
+    let mut work = [7u32; LEAST_WORK];
     let a = fold::to_width(file, kind, Slices(limit), &mut placements, &mut work);
     is(a, width, height) && is(folding::measure(file, kind, &placements), width, height)
 }
 
 fn no_height(file: &[u8], kind: Kind, limit: u32) -> bool {
     let mut placements = [0u32; 36];
-    let mut work = [0u32; 8192];
+    let mut work = [0u32; LEAST_WORK];
     is_unmeetable(fold::to_height(file, kind, Rows(limit), &mut placements, &mut work))
 }
 
 fn no_width(file: &[u8], kind: Kind, limit: u32) -> bool {
     let mut placements = [0u32; 36];
-    let mut work = [0u32; 8192];
+    let mut work = [0u32; LEAST_WORK];
     is_unmeetable(fold::to_width(file, kind, Slices(limit), &mut placements, &mut work))
 }
 
@@ -183,7 +185,7 @@ fn height_above(table: &[u32], i: usize) -> u32
     requires { ⌜ 2 * i + 1 < length (now table) ⌝ }
 {
     if i == 0 {
-        2000000
+        MOST_LIMIT
     } else {
         less_one(table[2 * i - 1])
     }
@@ -196,7 +198,7 @@ fn width_above(table: &[u32], i: usize) -> u32
     if next < table.len() {
         less_one(table[next])
     } else {
-        2000000
+        MOST_LIMIT
     }
 }
 
@@ -257,7 +259,7 @@ fn begins(a: &[u32], b: &[u32]) -> bool {
 
 fn table_case(file: &[u8], kind: Kind, table: &[u32]) -> bool {
     let mut pairs = [0u32; 64];
-    let mut work = [9u32; 8192];
+    let mut work = [9u32; LEAST_WORK];
     match fold_table::table(file, kind, &mut pairs, &mut work) {
         Counted::Count(n) => n == table.len() / 2 && begins(&pairs, table),
         Counted::Refused(k) => false,

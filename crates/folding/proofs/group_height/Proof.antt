@@ -27,8 +27,8 @@ lefts-requires c κs = search needs
 larger-requires : tie.Need-larger-requires
 larger-requires c κs = search needs
 
-add-result : tie.Need-add-result
-add-result c = search needs
+add-t17 : tie.Need-add-t17
+add-t17 c = search needs
 
 sub-wide-2 : tie.Need-sub-wide-2
 sub-wide-2 c = omega (arith, has-left (now (c .before .before .before .before .before .before .before .before .before .args .heights)) [] (now (c .before .before .before .before .before .before .before .before .before .args .gaps)) (now (c .before .before .before .before .before .before .before .before .before .args .flat)) _ (c .before .before .before .before .before .before .before .before .before .pre .0 .some) (c .before .before .before .before .before .before .before .before .before .pre .0 .first-left) (c .before .before .lefts .ensures) 0)
@@ -42,20 +42,20 @@ shared-slice-read-wide-2 c = search needs
 wide-requires-2 : tie.Need-wide-requires-2
 wide-requires-2 c κs = search needs
 
-add-result-2 : tie.Need-add-result-2
-add-result-2 c = search needs
+add-t23 : tie.Need-add-t23
+add-t23 c = search needs
 
 returns : tie.Need-returns
-returns c = λ ws. rw (height-folded (now (c .before .before .before .before .before .before .before .before .before .before .before .args .heights)) ws (now (c .before .before .before .before .before .before .before .before .before .before .before .args .gaps)) (now (c .before .before .before .before .before .before .before .before .before .before .before .args .flat)) _ (c .before .before .before .before .before .before .before .before .before .before .before .pre .0 .some) (c .before .before .before .before .before .before .before .before .before .before .before .pre .0 .first-left) (c .before .before .before .before .lefts .ensures) (c .before .before .before .before .before .before .before .before .before .before .before .args .before) (c .before .before .before .if1 .taken)) (omega (arith, c .before .before .before .before .before .before .before .top .ensures .0, c .before .before .larger .ensures, c .before .before .before .before .before .wide .ensures .0, c .wide2 .ensures .0))
+returns c = λ ws. rw (height-folded (now (c .before .before .before .before .before .before .before .before .before .before .before .args .heights)) ws (now (c .before .before .before .before .before .before .before .before .before .before .before .args .gaps)) (now (c .before .before .before .before .before .before .before .before .before .before .before .args .flat)) _ (c .before .before .before .before .before .before .before .before .before .before .before .pre .0 .some) (c .before .before .before .before .before .before .before .before .before .before .before .pre .0 .first-left) (c .before .before .before .before .lefts .ensures) (c .before .before .before .before .before .before .before .before .before .before .before .args .before .0) (c .before .before .before .if1 .taken)) (omega (arith, c .before .before .before .before .before .before .before .top .ensures .0, c .before .before .larger .ensures, c .before .before .before .before .before .wide .ensures .0, c .wide2 .ensures .0))
 
-add-result-3 : tie.Need-add-result-3
-add-result-3 c = search needs
+add-t24 : tie.Need-add-t24
+add-t24 c = search needs
 
-add-result-4 : tie.Need-add-result-4
-add-result-4 c = search needs
+add-t25 : tie.Need-add-t25
+add-t25 c = search needs
 
 returns-2 : tie.Need-returns-2
-returns-2 c = λ ws. rw (height-flat (now (c .before .before .before .before .before .before .before .before .args .heights)) ws (now (c .before .before .before .before .before .before .before .before .args .gaps)) (now (c .before .before .before .before .before .before .before .before .args .flat)) _ (c .before .before .before .before .before .before .before .before .pre .0 .some) (c .before .before .before .before .before .before .before .before .pre .0 .first-left) (c .before .lefts .ensures) (c .before .before .before .before .before .before .before .before .args .before) (c .if1 .left)) (omega (arith, c .before .before .before .before .top .ensures .0, c .before .before .wide .ensures .0))
+returns-2 c = λ ws. rw (height-flat (now (c .before .before .before .before .before .before .before .before .args .heights)) ws (now (c .before .before .before .before .before .before .before .before .args .gaps)) (now (c .before .before .before .before .before .before .before .before .args .flat)) _ (c .before .before .before .before .before .before .before .before .pre .0 .some) (c .before .before .before .before .before .before .before .before .pre .0 .first-left) (c .before .lefts .ensures) (c .before .before .before .before .before .before .before .before .args .before .0) (c .if1 .left)) (omega (arith, c .before .before .before .before .top .ensures .0, c .before .before .wide .ensures .0))
 
 pub group-height-spec : {M : Type 1} → statement M
 group-height-spec =
@@ -68,13 +68,13 @@ group-height-spec =
     wide-requires
     lefts-requires
     larger-requires
-    add-result
+    add-t17
     sub-wide-2
     mul-wide-2
     shared-slice-read-wide-2
     wide-requires-2
-    add-result-2
+    add-t23
     returns
-    add-result-3
-    add-result-4
+    add-t24
+    add-t25
     returns-2)

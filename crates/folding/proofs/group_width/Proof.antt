@@ -19,17 +19,17 @@ abbrev μ-loop : tie.MeasureT-loop
 loop-holds : tie.Need-loop-holds Inv-loop μ-loop
 loop-holds c = (omega arith, sym (greatest-none _), omega arith)
 
-mul-row-sum : tie.Need-mul-row-sum Inv-loop μ-loop
-mul-row-sum c = search needs
+mul-t7 : tie.Need-mul-t7 Inv-loop μ-loop
+mul-t7 c = search needs
 
-add-row-sum : tie.Need-add-row-sum Inv-loop μ-loop
-add-row-sum c = search needs
+add-t9 : tie.Need-add-t9 Inv-loop μ-loop
+add-t9 c = search needs
 
-mul-row-sum-2 : tie.Need-mul-row-sum-2 Inv-loop μ-loop
-mul-row-sum-2 c = search needs
+mul-t10 : tie.Need-mul-t10 Inv-loop μ-loop
+mul-t10 c = search needs
 
-shared-slice-read-row-sum : tie.Need-shared-slice-read-row-sum Inv-loop μ-loop
-shared-slice-read-row-sum c = search needs
+shared-slice-read-t12 : tie.Need-shared-slice-read-t12 Inv-loop μ-loop
+shared-slice-read-t12 c = search needs
 
 row-sum-requires : tie.Need-row-sum-requires Inv-loop μ-loop
 row-sum-requires c κs = c .before .before .before .before .before .before .pre
@@ -56,10 +56,10 @@ group-width-spec =
     Inv-loop
     μ-loop
     loop-holds
-    mul-row-sum
-    add-row-sum
-    mul-row-sum-2
-    shared-slice-read-row-sum
+    mul-t7
+    add-t9
+    mul-t10
+    shared-slice-read-t12
     row-sum-requires
     larger-requires
     add-i

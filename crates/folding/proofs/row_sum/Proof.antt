@@ -10,7 +10,7 @@ use Rattle.folding.proofs.row_sum.Statement.{statement}
 use Rattle.folding.proofs.row_sum.Tie as tie
 
 abbrev Inv-loop : tie.InvT-loop
-Inv-loop heights widths flat row sum₀ i₀ sum i = (i ≤ length heights) × (sum ≡ total (shareAt heights widths flat row) i) × (sum ≤ 65535 * i)
+Inv-loop heights widths flat row sum₀ i₀ sum i = (i ≤ length heights) × (sum ≡ total (shareAt heights widths flat (row .0)) i) × (sum ≤ 65535 * i)
 
 abbrev μ-loop : tie.MeasureT-loop
 μ-loop heights widths flat row sum₀ i₀ sum i = length heights - i
@@ -31,7 +31,7 @@ loop-less : tie.Need-loop-less Inv-loop μ-loop
 loop-less c = search needs
 
 loop-again : tie.Need-loop-again Inv-loop μ-loop
-loop-again c = (omega arith, omega (arith, total-more (shareAt (now (c .before .before .before .before .before .before .args .heights)) (now (c .before .before .before .before .before .before .args .widths)) (now (c .before .before .before .before .before .before .args .flat)) (c .before .before .before .before .before .before .args .row)) (c .before .before .loop .i), c .share .ensures .0), omega (arith, c .share .ensures .1))
+loop-again c = (omega arith, omega (arith, total-more (shareAt (now (c .before .before .before .before .before .before .before .args .heights)) (now (c .before .before .before .before .before .before .before .args .widths)) (now (c .before .before .before .before .before .before .before .args .flat)) (c .before .before .before .before .before .before .before .args .row .0)) (c .before .before .before .loop .i), c .before .share .ensures .0), omega (arith, c .before .share .ensures .1))
 
 returns : tie.Need-returns Inv-loop μ-loop
 returns c = let e : c .before .loop .i ≡ length (now (c .before .before .before .before .before .args .heights)) = omega arith in (rw e at (c .before .loop .inv .1), omega arith)

@@ -29,10 +29,10 @@ wide-requires : tie.Need-wide-requires
 wide-requires c κs = search needs
 
 returns : tie.Need-returns
-returns c = (rw (le-leb _ _ (c .before .before .before .before .if1 .taken), ← c .before .before .before .end-at .ensures .0, lt-ltb _ _ (c .before .before .if2 .taken)) (c .wide .ensures .0), omega (arith, c .wide .ensures .1))
+returns c = (rw (le-leb _ _ (c .before .before .before .before .before .before .if1 .taken), ← c .before .before .before .before .before .end-at .ensures .0, lt-ltb _ _ (c .before .before .if2 .taken)) (c .wide .ensures .0), omega (arith, c .wide .ensures .1))
 
 returns-2 : tie.Need-returns-2
-returns-2 c = (rw (le-leb _ _ (c .before .before .if1 .taken), ← c .before .end-at .ensures .0, le-ltb _ _ (c .if2 .left)), omega arith)
+returns-2 c = (rw (le-leb _ _ (c .before .before .before .before .if1 .taken), ← c .before .before .before .end-at .ensures .0, le-ltb _ _ (c .if2 .left)), omega arith)
 
 returns-3 : tie.Need-returns-3
 returns-3 c = (rw (lt-leb _ _ (c .if1 .left)), omega arith)

@@ -1,5 +1,6 @@
-use Prim.Native.Nat.{_-_, _≤_}
+use Prim.Native.Nat.{_+_, _-_, _≤_}
 use lib.ListN.{length}
+use Rattle.folding.specs.Legal.{mostStart}
 use Rattle.folding.specs.Inner.{endAt}
 use Rattle.folding.specs.Outline.{greatest}
 use Rattle.folding.proofs.Steps.{greatest-none, greatest-more}
@@ -11,7 +12,7 @@ use Rattle.folding.proofs.top.Statement.{statement}
 use Rattle.folding.proofs.top.Tie as tie
 
 abbrev Inv-loop : tie.InvT-loop
-Inv-loop heights flat t₀ i₀ t i = (i ≤ length heights) × (t ≡ greatest (endAt heights flat) i) × (t ≤ 1089535)
+Inv-loop heights flat t₀ i₀ t i = (i ≤ length heights) × (t ≡ greatest (endAt heights flat) i) × (t ≤ mostStart + 65535)
 
 abbrev μ-loop : tie.MeasureT-loop
 μ-loop heights flat t₀ i₀ t i = length heights - i
