@@ -18,7 +18,8 @@
  *
  * `nested` is the kind: false for apart, true for nested.
  *
- * A placement is three numbers: group (from 0), side (0 left, 1 right), start row (0 to 1,024,000). A folding is n
+ * A placement is three numbers: group (from 0), side (0 left, 1 right), start row (0 to 1,024,000). Rows count from the
+ * end where the group's fold is, and in a group without a fold from the end of its last component. A folding is n
  * placements, C1's first.
  *
  * Every call answers every input, damaged ones too. What it asks of its caller is what C asks of every buffer: each

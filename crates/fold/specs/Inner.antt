@@ -58,3 +58,8 @@ pub record Halving (kind : Kind) (cs : List Component) (w lo hi : ℕ) : Type 0 
   pub most : hi ≤ mostLimit
   pub within : layoutOf kind hi 0 cs .width ≤ w
   pub below : (k : ℕ) → lo ≡ k + 1 → w < layoutOf kind k 0 cs .width
+
+-- What it asks: a stack with room to plan it, and a height for which the best layout is narrow enough.
+abbrev pub HalvingAsks : Kind → List ℕ → List ℕ → List ℕ → List ℕ → ℕ → ℕ → Type 0
+HalvingAsks kind hs ws gs work most top =
+    Plannable kind hs ws gs work × (most ≤ mostLimit) × Halving kind (componentsIn hs ws gs) most 1 top

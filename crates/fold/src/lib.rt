@@ -1,14 +1,11 @@
 // Fold to height and fold to width.
 ghost use mathlib.Core.Path.{_≡_};
-ghost use Prim.Native.Nat.{_≤_};
-ghost use Rattle.terms.specs.Numbers.{mostLimit};
 ghost use Rattle.terms.specs.Answer.{countAnswer};
 ghost use Rattle.terms.specs.Component.{componentsIn};
 ghost use Rattle.folding.specs.Best.{BestForHeight, BestForWidth, UnmeetableHeight, UnmeetableWidth};
 ghost use Rattle.folding.specs.Calls.{measuredAnswer};
 ghost use Rattle.fold.specs.Calls.{foldChecks, Searched, ToHeight, ToWidth};
-ghost use Rattle.fold.specs.Inner.{FirstLists, Foldable, FirstAnswered, Written, LeastFor, Halving};
-ghost use Rattle.plan.specs.Asks.{Plannable};
+ghost use Rattle.fold.specs.Inner.{FirstLists, Foldable, FirstAnswered, Written, HalvingAsks, LeastFor};
 use folding::Measured;
 use group::NONE;
 use plan::LISTED;
@@ -75,8 +72,7 @@ fn least_height(
     g: &[u16],
     work: &mut [u32],
 ) -> Rows
-    requires { ⌜ Plannable kind (now h) (now w) (now g) (now work) × (most .0 ≤ mostLimit)
-        × Halving kind (componentsIn (now h) (now w) (now g)) (most .0) 1 (top .0) ⌝ }
+    requires { ⌜ HalvingAsks kind (now h) (now w) (now g) (now work) (most .0) (top .0) ⌝ }
     ensures { λ r. ⌜ LeastFor kind (componentsIn (now (h .entry)) (now (w .entry)) (now (g .entry))) (most .0) (r .0) ⌝ }
 {
     let mut lo = 1;

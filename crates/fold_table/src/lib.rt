@@ -22,7 +22,8 @@ use terms::Rows;
 // How many outlines are unbeaten: each is the best one below the height of the one before.
 fn count(kind: Kind, h: &[u16], w: &[u16], g: &[u16], work: &mut [u32]) -> usize
     requires { ⌜ Plannable kind (now h) (now w) (now g) (now work) ⌝ }
-    ensures { λ r. ⌜ r ≡ length (allOutlines kind (componentsIn (now (h .entry)) (now (w .entry)) (now (g .entry)))) ⌝ }
+    ensures { λ r. ⌜ r
+        ≡ length (allOutlines kind (componentsIn (now (h .entry)) (now (w .entry)) (now (g .entry)))) ⌝ }
 {
     let mut limit = MOST_LIMIT;
     let mut n = 0;

@@ -11,10 +11,11 @@ use Rattle.terms.specs.Answer.{Answer}
 use Rattle.terms.specs.Component.{tabulate, componentIn, componentsIn}
 use Rattle.folding.specs.declared.Placed.{Placed}
 use Rattle.folding.specs.declared.Outline.{Outline}
-use Rattle.folding.specs.Calls.{measureIn}
+use Rattle.folding.specs.declared.Winner.{Winner}
+use Rattle.folding.specs.Calls.{measureIn, winnerIs}
 use Rattle.folding.specs.Legal.{mostStart, legal}
 use Rattle.folding.specs.Placement.{placementAt}
-use Rattle.folding.specs.Outline.{groupHeight, widthIn, heightIn}
+use Rattle.folding.specs.Outline.{groupWidth, groupHeight, widthIn, heightIn}
 
 -- A stack in three lists, and its placements in a run of flat numbers.
 abbrev pub placedAt : List ℕ → List ℕ → List ℕ → List ℕ → ℕ → Placed
@@ -101,6 +102,12 @@ pub record GroupIn (hs ws gs flat : List ℕ) : Type 0 where
   pub widths-long : length ws ≡ length hs
   pub tall : (i : ℕ) → i < length hs → 0 < getD hs i 0
 
+-- The width and the height of a group behind the gap g0. Numbers of 16 bits add up to the width.
+pub record GroupOutlined (g0 : ℕ) (hs ws gs flat : List ℕ) (o : Outline) : Type 0 where
+  pub width-is : o .width .0 ≡ groupWidth (placedIn hs ws gs flat)
+  pub height-is : o .height .0 ≡ groupHeight g0 (placedIn hs ws gs flat)
+  pub slim : o .width .0 ≤ 65535 * length hs
+
 abbrev pub outlineIn : List Placed → Outline
 outlineIn l = record { width = record { 0 = widthIn l }; height = record { 0 = heightIn l } }
 
@@ -121,6 +128,10 @@ pub record FirstIn (n : ℕ) (hs ws gs : List ℕ) : Type 0 where
 
 abbrev pub measureFirst : Kind → ℕ → List ℕ → List ℕ → List ℕ → List ℕ → Answer Outline
 measureFirst kind n hs ws gs flat = measureIn kind (componentsIn (take n hs) (take n ws) (take n gs)) flat
+
+-- Which of two foldings of that stack wins.
+abbrev pub betterFirst : Kind → ℕ → List ℕ → List ℕ → List ℕ → List ℕ → List ℕ → Winner
+betterFirst kind n hs ws gs first second = winnerIs (measureFirst kind n hs ws gs first) (measureFirst kind n hs ws gs second)
 
 -- A stack in lists with a legal folding.
 pub record Legalised (hs ws gs flat : List ℕ) : Type 0 where

@@ -7,11 +7,13 @@ ghost use lib.Dec.{eqb};
 ghost use Rattle.terms.specs.Numbers.{mostApart};
 ghost use Rattle.terms.specs.Component.{componentsIn};
 ghost use Rattle.folding.specs.Placement.{heightOf, groupOf, startOf, endOf, left};
-ghost use Rattle.folding.specs.Legal.{mostStart, inRange, onSide, sameGroup, inOrder, leftFirst, leftClear, rightClear, legal};
-ghost use Rattle.folding.specs.Outline.{greatest, groupWidth, groupHeight};
+ghost use Rattle.folding.specs.Legal.{mostStart, legal, inRange, onSide};
+ghost use Rattle.folding.specs.Legal.{sameGroup, inOrder, leftFirst, leftClear, rightClear};
+ghost use Rattle.folding.specs.Outline.{greatest};
 ghost use Rattle.folding.specs.Calls.{measuredAnswer, measureIn, measureOf, chooseOf, secondWins, winnerIs};
-ghost use Rattle.folding.specs.Inner.{placedAt, placedIn, endAt, shareAt, sumAt, sumAtStart, outlineIn, measureFirst};
-ghost use Rattle.folding.specs.Inner.{Listed, StandsAt, Topped, GroupEnd, Lefts, GroupFlat, HeightIs, GroupIn, StackIn, FirstIn, Legalised};
+ghost use Rattle.folding.specs.Inner.{placedAt, placedIn, endAt, shareAt, sumAt, sumAtStart, outlineIn};
+ghost use Rattle.folding.specs.Inner.{Listed, StandsAt, Topped, GroupEnd, Lefts, GroupFlat, HeightIs};
+ghost use Rattle.folding.specs.Inner.{GroupIn, GroupOutlined, StackIn, FirstIn, Legalised, measureFirst, betterFirst};
 use numbers::component;
 use numbers::larger;
 use numbers::wide;
@@ -50,7 +52,8 @@ pub enum Measured {
 
 fn placed_at(heights: &[u16], widths: &[u16], gaps: &[u16], flat: &[u32], i: usize) -> Placed
     requires { ⌜ Listed (now heights) (now widths) (now gaps) (now flat) × (i < length (now heights)) ⌝ }
-    ensures { λ r. ⌜ r ≡ placedAt (now (heights .entry)) (now (widths .entry)) (now (gaps .entry)) (now (flat .entry)) i ⌝ }
+    ensures { λ r. ⌜ r
+        ≡ placedAt (now (heights .entry)) (now (widths .entry)) (now (gaps .entry)) (now (flat .entry)) i ⌝ }
     ensures { λ r. ⌜ heightOf r < 65536 ⌝ }
 {
     Placed {
@@ -191,7 +194,8 @@ fn end_at(heights: &[u16], flat: &[u32], i: usize) -> Rows
 // T: one more than the highest row of the group.
 fn top(heights: &[u16], flat: &[u32]) -> Rows
     requires { ⌜ Topped (now heights) (now flat) ⌝ }
-    ensures { λ r. ⌜ r .0 ≡ greatest (endAt (now (heights .entry)) (now (flat .entry))) (length (now (heights .entry))) ⌝ }
+    ensures { λ r. ⌜ r .0
+        ≡ greatest (endAt (now (heights .entry)) (now (flat .entry))) (length (now (heights .entry))) ⌝ }
     ensures { λ r. ⌜ r .0 ≤ mostStart + 65535 ⌝ }
 {
     let mut t = 0;
@@ -236,7 +240,8 @@ fn row_sum(heights: &[u16], widths: &[u16], flat: &[u32], row: Rows) -> Slices
 fn group_width(heights: &[u16], widths: &[u16], flat: &[u32]) -> Slices
     requires { ⌜ Topped (now heights) (now flat) × (length (now widths) ≡ length (now heights)) ⌝ }
     ensures { λ r. ⌜ r .0
-        ≡ greatest (sumAtStart (now (heights .entry)) (now (widths .entry)) (now (flat .entry))) (length (now (heights .entry))) ⌝ }
+        ≡ greatest (sumAtStart (now (heights .entry)) (now (widths .entry)) (now (flat .entry)))
+        (length (now (heights .entry))) ⌝ }
     ensures { λ r. ⌜ r .0 ≤ 65535 * length (now (heights .entry)) ⌝ }
 {
     let mut width = 0;
@@ -288,11 +293,8 @@ fn group_outline(
     before: Rows,
 ) -> Outline
     requires { ⌜ GroupIn (now heights) (now widths) (now gaps) (now flat) × (before .0 ≤ 65535) ⌝ }
-    ensures { λ r. ⌜ r .width .0
-        ≡ groupWidth (placedIn (now (heights .entry)) (now (widths .entry)) (now (gaps .entry)) (now (flat .entry))) ⌝ }
-    ensures { λ r. ⌜ r .height .0
-        ≡ groupHeight (before .0) (placedIn (now (heights .entry)) (now (widths .entry)) (now (gaps .entry)) (now (flat .entry))) ⌝ }
-    ensures { λ r. ⌜ r .width .0 ≤ 65535 * length (now (heights .entry)) ⌝ }
+    ensures { λ r. ⌜ GroupOutlined (before .0)
+        (now (heights .entry)) (now (widths .entry)) (now (gaps .entry)) (now (flat .entry)) r ⌝ }
 {
     Outline {
         width: group_width(heights, widths, flat),
@@ -343,7 +345,8 @@ fn measure_lists(
 ) -> Measured
     requires { ⌜ StackIn (now heights) (now widths) (now gaps) ⌝ }
     ensures { λ r. ⌜ measuredAnswer r
-        ≡ measureIn kind (componentsIn (now (heights .entry)) (now (widths .entry)) (now (gaps .entry))) (now (flat .entry)) ⌝ }
+        ≡ measureIn kind (componentsIn (now (heights .entry)) (now (widths .entry)) (now (gaps .entry)))
+        (now (flat .entry)) ⌝ }
 {
     if flat.len() / 3 < heights.len() {
         return Measured::Refused(Refusal::ShortBuffer);
@@ -430,9 +433,8 @@ fn better_of(
     second: &[u32],
 ) -> Winner
     requires { ⌜ FirstIn n (now heights) (now widths) (now gaps) ⌝ }
-    ensures { λ r. ⌜ r ≡ winnerIs
-        (measureFirst kind n (now (heights .entry)) (now (widths .entry)) (now (gaps .entry)) (now (first .entry)))
-        (measureFirst kind n (now (heights .entry)) (now (widths .entry)) (now (gaps .entry)) (now (second .entry))) ⌝ }
+    ensures { λ r. ⌜ r ≡ betterFirst kind n
+        (now (heights .entry)) (now (widths .entry)) (now (gaps .entry)) (now (first .entry)) (now (second .entry)) ⌝ }
 {
     let a = measure_first(kind, n, heights, widths, gaps, first);
     let b = measure_first(kind, n, heights, widths, gaps, second);

@@ -39,7 +39,8 @@ fn fold_cell(e: &[u32], p: usize) -> u32
 // The least height over all fold points of a filled table.
 fn over_folds(g0: Rows, g: &[u16], e: &[u32]) -> Reached
     requires { ⌜ PassAsks (g0 .0) (now g) (now e) ⌝ }
-    ensures { λ r. ⌜ Pass (g0 .0) (now (g .entry)) (now (e .entry)) (length (now (g .entry)) - 1) (r .height .0) (r .at) ⌝ }
+    ensures { λ r. ⌜ Pass (g0 .0) (now (g .entry)) (now (e .entry)) (length (now (g .entry)) - 1)
+        (r .height .0) (r .at) ⌝ }
 {
     let before = g0.0;
     let m = g.len();
@@ -63,7 +64,7 @@ fn over_folds(g0: Rows, g: &[u16], e: &[u32]) -> Reached
 }
 
 // The content of the table's buffer is free afterwards.
-pub fn least_height(g0: Rows, h: &[u16], w: &[u16], g: &[u16], e: &mut [u32], cap: Slices) -> Rows
+fn least_height(g0: Rows, h: &[u16], w: &[u16], g: &[u16], e: &mut [u32], cap: Slices) -> Rows
     requires { ⌜ HeightAsks (g0 .0) (now h) (now w) (now g) (now e) ⌝ }
     ensures { λ r. ⌜ r .0
         ≡ leastHeight Nested (g0 .0) (componentsIn (now (h .entry)) (now (w .entry)) (now (g .entry))) (cap .0) ⌝ }

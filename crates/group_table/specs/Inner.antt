@@ -36,8 +36,8 @@ pub record Ending (hs es : List ℕ) (p q a b : ℕ) : Type 0 where
   pub room : cells ≤ length es
   pub left-in : p ≤ length hs
   pub right-in : q ≤ length hs
-  pub left-low : a ≤ 256000
-  pub right-low : b ≤ 256000
+  pub left-low : a ≤ mostNested * mostSize
+  pub right-low : b ≤ mostNested * mostSize
   pub top : p ≡ 0 → getD es q 0 ≤ mostEntry
   pub side : 0 < p → q ≡ length hs → getD es (p * stride + q) 0 ≤ mostEntry
   pub left-first : 0 < p → q < length hs → getD es ((p - 1) * stride + q) 0 ≤ mostEntry

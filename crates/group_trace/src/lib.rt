@@ -77,7 +77,8 @@ fn next(h: &[u16], w: &[u16], e: &[u32], p: usize, q: usize, a: u32, b: u32, cap
 
 fn put(out: &mut [u32], i: usize, group: u32, side: u32, start: u32)
     requires { ⌜ (i < mostApart) × (3 * i + 2 < length (now out)) ⌝ }
-    ensures { λ _. ⌜ now (out .exit) ≡ take (3 * i) (now (out .entry)) ++ (group ∷ side ∷ start ∷ drop (3 * i + 3) (now (out .entry))) ⌝ }
+    ensures { λ _. ⌜ now (out .exit)
+        ≡ take (3 * i) (now (out .entry)) ++ (group ∷ side ∷ start ∷ drop (3 * i + 3) (now (out .entry))) ⌝ }
 {
     out[3 * i] = group;
     out[3 * i + 1] = side;

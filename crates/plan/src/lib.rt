@@ -7,7 +7,8 @@ ghost use Rattle.terms.specs.declared.Kind.the-variants.{Apart, Nested};
 ghost use Rattle.terms.specs.Component.{componentsIn};
 ghost use Rattle.group.specs.Group.{none};
 ghost use Rattle.layout.specs.Layout.{better, choice, unmet, layouts, layoutOf};
-ghost use Rattle.plan.specs.Asks.{layoutIn, GroupAsks, Packed, tried, mostRows, restAt, FirstAsks, FromAsks, PlanAsks, PlanDone, gapBefore, Plannable, bestAt};
+ghost use Rattle.plan.specs.Asks.{layoutIn, GroupAsks, Packed, tried, mostRows, restAt, FirstAsks};
+ghost use Rattle.plan.specs.Asks.{FromAsks, PlanAsks, PlanDone, gapBefore, Plannable, bestAt};
 use folding::Outline;
 use group::NONE;
 use numbers::larger;
@@ -84,7 +85,8 @@ fn try_flat(
     requires { ⌜ GroupAsks Apart (limit .0) (g0 .0) (widest .0) (now h) (now w) (now g) best rest ⌝ }
     requires { ⌜ Packed (tall .0) (now h) (now w) (now g) ⌝ }
     ensures { λ r. ⌜ layoutIn r
-        ≡ tried Apart (limit .0) (g0 .0) (length (now (h .entry))) (now (h .entry)) (now (w .entry)) (now (g .entry)) best rest ⌝ }
+        ≡ tried Apart (limit .0) (g0 .0) (length (now (h .entry)))
+        (now (h .entry)) (now (w .entry)) (now (g .entry)) best rest ⌝ }
 {
     let k = h.len();
     let height = tall.0 + g0.0 + wide(g[k - 1]);
@@ -120,7 +122,8 @@ fn try_folds(
     requires { ⌜ GroupAsks Nested (limit .0) (g0 .0) (widest .0) (now h) (now w) (now g) best rest ⌝ }
     requires { ⌜ leastWork ≤ length (now work) ⌝ }
     ensures { λ r. ⌜ layoutIn r
-        ≡ tried Nested (limit .0) (g0 .0) (length (now (h .entry))) (now (h .entry)) (now (w .entry)) (now (g .entry)) best rest ⌝ }
+        ≡ tried Nested (limit .0) (g0 .0) (length (now (h .entry)))
+        (now (h .entry)) (now (w .entry)) (now (g .entry)) best rest ⌝ }
 {
     if NONE <= rest.width.0 {
         return best;
@@ -160,7 +163,8 @@ fn try_group(
     requires { ⌜ Packed (tall .0) (now h) (now w) (now g) ⌝ }
     requires { ⌜ leastWork ≤ length (now work) ⌝ }
     ensures { λ r. ⌜ layoutIn r
-        ≡ tried kind (limit .0) (g0 .0) (length (now (h .entry))) (now (h .entry)) (now (w .entry)) (now (g .entry)) best rest ⌝ }
+        ≡ tried kind (limit .0) (g0 .0) (length (now (h .entry)))
+        (now (h .entry)) (now (w .entry)) (now (g .entry)) best rest ⌝ }
 {
     match kind {
         Kind::Apart => try_flat(limit, g0, tall, widest, h, w, g, best, rest),
@@ -183,7 +187,8 @@ fn try_first(
     rest: Best,
     work: &mut [u32],
 ) -> Best
-    requires { ⌜ GroupAsks kind (limit .0) (g0 .0) (widest .0) (take k (now h)) (take k (now w)) (take k (now g)) best rest ⌝ }
+    requires { ⌜ GroupAsks kind (limit .0) (g0 .0) (widest .0)
+        (take k (now h)) (take k (now w)) (take k (now g)) best rest ⌝ }
     requires { ⌜ Packed (tall .0) (take k (now h)) (take k (now w)) (take k (now g)) ⌝ }
     requires { ⌜ leastWork ≤ length (now work) ⌝ }
     requires { ⌜ (k ≤ length (now h)) × (k ≤ length (now w)) × (k ≤ length (now g)) ⌝ }

@@ -1,4 +1,4 @@
--- What reading, position, lookup and writer answer, and what the lent buffers hold afterwards.
+-- What reading and lookup answer, and what the lent buffers hold afterwards.
 use Prim.Native.Nat.{ℕ, _+_, _-_, _*_}
 use mathlib.Core.List.{List, [], _++_, map}
 use mathlib.Core.Path.{_≡_}

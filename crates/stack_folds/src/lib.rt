@@ -16,7 +16,8 @@ ghost use Rattle.stack_write.specs.Call.{Wrote};
 ghost use Rattle.folding.specs.Calls.{measuredAnswer, measureOf, winnerIs};
 ghost use Rattle.fold.specs.Calls.{ToHeight, ToWidth};
 ghost use Rattle.fold_table.specs.Calls.{TableOf};
-ghost use Rattle.stack_folds.specs.Codes.{kindOf, countCode, outlineCode, countOfCode, outlineOfCode, PlainCount, PlainOutline, partCode, choiceCode};
+ghost use Rattle.stack_folds.specs.Codes.{kindOf, countCode, outlineCode, partCode, choiceCode};
+ghost use Rattle.stack_folds.specs.Codes.{countOfCode, outlineOfCode, PlainCount, PlainOutline};
 
 // A refusal and 0, or 0 and a number of components, bytes or pairs.
 #[repr(C)]

@@ -41,7 +41,8 @@ fn lists_stand(heights: &[u16], widths: &[u16], gaps: &[u16], rule: Rule) -> boo
 fn check_lists(heights: &[u16], widths: &[u16], gaps: &[u16]) -> Counted
     requires { ⌜ Lists (now heights) (now widths) (now gaps) ⌝ }
     ensures { λ r. ⌜ countAnswer r
-        ≡ countOf (stackOf (mostOf Apart) (componentsIn (now (heights .entry)) (now (widths .entry)) (now (gaps .entry)))) ⌝ }
+        ≡ countOf (stackOf (mostOf Apart)
+        (componentsIn (now (heights .entry)) (now (widths .entry)) (now (gaps .entry)))) ⌝ }
 {
     let n = heights.len();
     if n == 0 {
@@ -99,7 +100,8 @@ fn put_component(out: &mut [u8], c: Component)
 // The components' bytes, six for each.
 fn put_components(heights: &[u16], widths: &[u16], gaps: &[u16], out: &mut [u8])
     requires { ⌜ Writable (now heights) (now widths) (now gaps) (now out) ⌝ }
-    ensures { λ _. ⌜ now (out .exit) ≡ bodyInto (now (heights .entry)) (now (widths .entry)) (now (gaps .entry)) (now (out .entry)) ⌝ }
+    ensures { λ _. ⌜ now (out .exit)
+        ≡ bodyInto (now (heights .entry)) (now (widths .entry)) (now (gaps .entry)) (now (out .entry)) ⌝ }
 {
     let n = heights.len();
     let mut p = Position::first();

@@ -43,7 +43,8 @@ fn put_group(
     out: &mut [u32],
     work: &mut [u32],
 )
-    requires { ⌜ GroupAsks kind (g0 .0) (now h) (now w) (now g) (now work) × (3 * length (now h) ≤ length (now out)) ⌝ }
+    requires { ⌜ GroupAsks kind (g0 .0) (now h) (now w) (now g) (now work)
+        × (3 * length (now h) ≤ length (now out)) ⌝ }
     ensures { λ _. ⌜ GroupPut kind group (g0 .0) (cap .0)
         (now (h .entry)) (now (w .entry)) (now (g .entry)) (now (out .entry)) (now (out .exit)) ⌝ }
 {

@@ -11,7 +11,7 @@ pub enum Shape {
     /// Narrow and wide ones: a wide one fits beside a narrow one and clashes with every other.
     Clashes,
     Gaps,
-    /// Widths rise to the middle of the stack and fall again, with a little noise: the dearest stacks known.
+    /// Widths rise to the middle of the stack and fall again, with a little noise: among the dearest stacks known.
     SmoothWidths,
 }
 

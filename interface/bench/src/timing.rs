@@ -42,15 +42,15 @@ pub fn time_stack(stack: &Stack, nested: bool) -> Timed {
     let (height_cost, height) = time_fold(
         middle.height.0,
         &spaced(lowest.height.0, narrowest.height.0),
-        |limit| library.fold_to_height(limit),
-        |limit| paper.fold_to_height(limit),
+        |limit| library.to_height(limit),
+        |limit| paper.to_height(limit),
         |limit| within_height(&table, limit),
     );
     let (width_cost, width) = time_fold(
         middle.width.0,
         &widths(&table),
-        |limit| library.fold_to_width(limit),
-        |limit| paper.fold_to_width(limit),
+        |limit| library.to_width(limit),
+        |limit| paper.to_width(limit),
         |limit| table.iter().rfind(|line| line.width.0 <= limit).copied(),
     );
     let dearest = [f64::from(height) / f64::from(narrowest.height.0), f64::from(width) / f64::from(narrowest.width.0)];

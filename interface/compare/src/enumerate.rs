@@ -1,6 +1,6 @@
 //! Every folding of a small stack, one by one: all groupings, folds, sides and start rows, each measured.
 //!
-//! Start rows are unbounded in document 01 (up to 1,024,000). Here a component may end at most at the sum of the heights
+//! Start rows go up to 1,024,000 in document 01. Here a component may end at most at the sum of the heights
 //! of its group, plus `spare` rows. Nothing is lost: if a group is higher than that sum, one of its rows below the top is
 //! empty, since its components fill at most as many rows as their heights add to. Taking that row out, so that all above it
 //! moves down by one, keeps the order in both sides, changes no other row's sum and lowers T by one. So each folding beyond

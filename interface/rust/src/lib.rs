@@ -46,7 +46,8 @@ pub enum Side {
     Right,
 }
 
-/// Where a component stands: its group, from 0, the side, and its start row counted from the group's fold.
+/// Where a component stands: its group, from 0, the side, and its start row. Rows count from the end where the group's fold
+/// is, and in a group without a fold from the end of its last component.
 #[derive(Clone, Copy, Debug, PartialEq, Eq, Hash)]
 pub struct Placement {
     pub group: u32,

@@ -11,7 +11,7 @@ group-height-requires : tie.Need-group-height-requires
 group-height-requires c κs = (c .before .before .before .before .before .pre .0 .flat-group, c .before .before .before .before .before .pre .1)
 
 returns : tie.Need-returns
-returns c = (c .before .group-width .ensures .0 ∙ sym (width-lists (now (c .before .before .before .before .before .before .args .heights)) (now (c .before .before .before .before .before .before .args .widths)) (now (c .before .before .before .before .before .before .args .gaps)) (now (c .before .before .before .before .before .before .args .flat)) (c .before .before .before .before .before .before .pre .0 .tall)), (c .group-height .ensures (now (c .before .before .before .before .before .before .args .widths)), c .before .group-width .ensures .1))
+returns c = record { width-is = c .before .group-width .ensures .0 ∙ sym (width-lists (now (c .before .before .before .before .before .before .args .heights)) (now (c .before .before .before .before .before .before .args .widths)) (now (c .before .before .before .before .before .before .args .gaps)) (now (c .before .before .before .before .before .before .args .flat)) (c .before .before .before .before .before .before .pre .0 .tall)); height-is = c .group-height .ensures (now (c .before .before .before .before .before .before .args .widths)); slim = c .before .group-width .ensures .1 }
 
 pub group-outline-spec : {M : Type 1} → statement M
 group-outline-spec = tie.close (tie.spec group-width-requires group-height-requires returns)

@@ -97,7 +97,7 @@ loop-less : tie.Need-loop-less Inv-loop μ-loop
 loop-less c = search needs
 
 loop-again : tie.Need-loop-again Inv-loop μ-loop
-loop-again c = walk-on (c .before .before .before .before .before .before .before .before .before .before .before .before .before .before .before .before .pre) (c .before .before .before .before .before .before .before .before .before .before .before .loop .inv) (c .before .before .before .before .before .before .before .before .before .group-end .ensures) (c .before .before .before .before .group-outline .ensures .0) (c .before .before .before .before .group-outline .ensures .1 .0) (c .before .before .before .before .group-outline .ensures .1 .1) (c .before .before .larger .ensures) (c .wide .ensures .0) (omega (arith, c .wide .ensures .1))
+loop-again c = walk-on (c .before .before .before .before .before .before .before .before .before .before .before .before .before .before .before .before .pre) (c .before .before .before .before .before .before .before .before .before .before .before .loop .inv) (c .before .before .before .before .before .before .before .before .before .group-end .ensures) (c .before .before .before .before .group-outline .ensures .width-is) (c .before .before .before .before .group-outline .ensures .height-is) (c .before .before .before .before .group-outline .ensures .slim) (c .before .before .larger .ensures) (c .wide .ensures .0) (omega (arith, c .wide .ensures .1))
 
 returns : tie.Need-returns Inv-loop μ-loop
 returns c = let d = walk-done (c .before .before .before .before .before .before .pre) (c .before .loop .inv) (c .loop-test .left) in rw (← d .0, ← d .1)
