@@ -6,7 +6,7 @@ use native.Mathlib.Omega.{arith}
 use lib.Dec.{leb, ltb}
 use borrow.Author.Tests.{le-leb, lt-leb, le-ltb, lt-ltb, leb-true, ltb-false, not-false}
 use Rattle.terms.specs.Answer.{Answer, refusal, result, refuseIf}
-use Rattle.terms.proofs.Answers.{passed}
+use Rattle.terms.proofs.Answers.{passed, result-same}
 use Rattle.terms.proofs.Bools.{both}
 use Rattle.fold.specs.Calls.{inLimit, foldChecks}
 
@@ -42,6 +42,12 @@ lent limit out work n v u e =
     let c = passed (ltb work 8192) 8 (result v) u (b .1) in
     let l = both (leb 1 limit) (leb limit 2000000) (not-false _ (a .0)) in
     record { low = leb-true _ _ (l .0); high = leb-true _ _ (l .1); room = ltb-false _ _ (b .0); work-room = ltb-false _ _ (c .0) }
+
+pub handed-on : {A : Type 0} (limit out work n : ℕ) (v u : A) → foldChecks limit out work n v ≡ result u → v ≡ u
+handed-on limit out work n v u e =
+    let a = passed (not (inLimit limit)) 7 _ u e in
+    let b = passed (ltb (out / 3) n) 8 _ u (a .1) in
+    result-same (passed (ltb work 8192) 8 (result v) u (b .1) .1)
 
 -- A refusal is the same whatever the checks would have handed on.
 pub refused-alike : {A B : Type 0} (limit out work n : ℕ) (v : A) (u : B) (k : ℕ) → foldChecks limit out work n v ≡ refusal k → foldChecks limit out work n u ≡ refusal k

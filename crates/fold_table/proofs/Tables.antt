@@ -9,7 +9,7 @@ use borrow.Author.Tests.{lt-ltb, le-ltb}
 use Rattle.terms.specs.declared.Component.{Component}
 use Rattle.terms.specs.declared.Kind.{Kind}
 use Rattle.terms.specs.Answer.{Answer, refusal, result}
-use Rattle.terms.specs.Component.{componentsIn}
+use Rattle.terms.specs.Component.{componentsIn, widthSum}
 use Rattle.stack.specs.File.{checkOf}
 use Rattle.stack.proofs.Reading.{Held}
 use Rattle.folding.specs.declared.Outline.{Outline}
@@ -168,10 +168,24 @@ module _ (kind : Kind) (out work : List ℕ) where
 pub list-asks : (kind : Kind) (n : ℕ) (hs ws gs work : List ℕ) → FirstLists kind n hs ws gs → 8192 ≤ length work → Plannable kind (take n hs) (take n ws) (take n gs) work
 list-asks kind n hs ws gs work f h = record { lists = f .lists; some = omega (arith, length-take-le n hs (f .heights-long), f .some); room = h }
 
+-- A call that its checks refuse answers so, and leaves what was lent as it was.
+pub refused-call : (kind : Kind) (out work out′ work′ : List ℕ) (answer : Answer ℕ) (k : ℕ) (valid : Answer (List Component)) → valid ≡ refusal k → TableAnswered kind out work out′ work′ answer valid
+    → (answer ≡ refusal k) × (out′ ≡ out) × (work′ ≡ work)
+refused-call kind out work out′ work′ answer k valid e t = rw e at t
+
 -- A known table leaves the call no choice.
 module _ (kind : Kind) (cs : List Component) (os : List Outline) (l : Listing kind cs os) (out work out′ work′ : List ℕ) (answer : Answer ℕ) where
-  tabled-known : Tabled kind cs out out′ answer → (answer ≡ tableAnswer (length out) os) × (out′ ≡ tableInto os out)
-  tabled-known t = let e : os ≡ t .listed = t .only os l in rw e (t .answers, t .holds)
+  -- What the call answers, what it writes, and that a buffer for as many pairs as the widths add up to is long enough.
+  abbrev Known : Type 0
+  Known = (answer ≡ tableAnswer (length out) os) × (out′ ≡ tableInto os out) × (2 * widthSum cs ≤ length out → answer ≡ result (length os))
 
-  pub the-table : (valid : Answer (List Component)) → valid ≡ result cs → TableAnswered kind out work out′ work′ answer valid → (answer ≡ tableAnswer (length out) os) × (out′ ≡ tableInto os out)
+  tabled-known : Tabled kind cs out out′ answer → Known
+  tabled-known t =
+      let e : os ≡ t .listed = t .only os l in
+      let few : length os ≤ widthSum cs = rw e (t .few) in
+      let a : answer ≡ tableAnswer (length out) os = rw e (t .answers) in
+      let h : out′ ≡ tableInto os out = rw e (t .holds) in
+      (a, h, λ room. a ∙ rw (le-ltb (length out / 2) (length os) (omega arith)))
+
+  pub the-table : (valid : Answer (List Component)) → valid ≡ result cs → TableAnswered kind out work out′ work′ answer valid → Known
   the-table valid e t = tabled-known (rw e at t)

@@ -2,13 +2,14 @@
 -- folding that breaks it.
 use Prim.Native.Nat.{ℕ}
 use mathlib.Core.Path.{_≡_, refl}
-use mathlib.Core.List.{List, [], _∷_}
+use mathlib.Core.List.{List, [], _∷_, _++_}
 use mathlib.Core.Bool.{true, false}
 use Rattle.terms.specs.declared.Component.{Component}
 use Rattle.terms.specs.declared.Kind.{Kind}
 use Rattle.terms.specs.declared.Kind.the-variants.{Apart, Nested}
 use Rattle.folding.specs.declared.Placement.{Placement}
 use Rattle.folding.specs.Placement.{placedOf}
+use Rattle.terms.specs.Answer.{refusal}
 use Rattle.terms.specs.Component.{every, stackOf, tabulate}
 use Rattle.stack.specs.File.{headerOf}
 use Rattle.folding.specs.Calls.{measureIn, chooseOf}
@@ -195,6 +196,21 @@ larger-gap-behind : Folds Nested (c 2 1 5 ∷ c 3 1 2 ∷ c 1 1 7 ∷ c 1 1 0 �
 unfolding placedOf legal each eachPair groupsOf topOf rowSum greatest lastGap folded foldGap layoutWidth layoutHeight
 larger-gap-behind = record { is-legal = record { whole = refl; rules = refl }; has = refl }
 
+-- The gap at the fold is that of the last component on the left: group 0 is 5 + 2 + 5 rows high.
+gap-at-fold : Folds Nested (c 2 1 3 ∷ c 1 1 5 ∷ c 4 1 7 ∷ c 1 1 2 ∷ c 1 1 0 ∷ []) (p 0 0 1 ∷ p 0 0 0 ∷ p 0 1 0 ∷ p 0 1 4 ∷ p 1 0 0 ∷ []) 3 12
+unfolding placedOf legal each eachPair groupsOf topOf rowSum greatest lastGap folded foldGap layoutWidth layoutHeight
+gap-at-fold = record { is-legal = record { whole = refl; rules = refl }; has = refl }
+
+-- Rows count from row 0, also where nothing stands in the first ones.
+empty-below : Folds Apart stack-A (p 0 0 5 ∷ []) 2 8
+unfolding placedOf legal each eachPair groupsOf topOf rowSum greatest lastGap folded foldGap layoutWidth layoutHeight
+empty-below = record { is-legal = record { whole = refl; rules = refl }; has = refl }
+
+-- Fewer placements than components, before the one that is there is found broken.
+short-and-broken : measureIn Apart stack-C (5 ∷ 0 ∷ 0 ∷ []) ≡ refusal 8
+unfolding measureIn
+short-and-broken = refl
+
 -- Two foldings with the same outline, of the stack 1/1, 2/1: choosing hands back the first, whichever it is.
 tied : List ℕ
 tied = 83 ∷ 84 ∷ 75 ∷ 1 ∷ 0 ∷ 2 ∷ 0 ∷ 1 ∷ 0 ∷ 1 ∷ 0 ∷ 0 ∷ 0 ∷ 2 ∷ 0 ∷ 1 ∷ 0 ∷ 0 ∷ 0 ∷ []
@@ -221,3 +237,25 @@ narrower-wins = refl
 lower-wins : chooseOf Nested tied (0 ∷ 0 ∷ 0 ∷ 0 ∷ 1 ∷ 2 ∷ []) (0 ∷ 0 ∷ 0 ∷ 0 ∷ 1 ∷ 1 ∷ []) ≡ 0 ∷ 0 ∷ 0 ∷ 0 ∷ 1 ∷ 1 ∷ []
 unfolding tied headerOf stackOf every tabulate measureIn placedOf legal each eachPair groupsOf topOf rowSum greatest lastGap folded foldGap layoutWidth layoutHeight
 lower-wins = refl
+
+-- The part has the winner's placements and no number past them.
+winner-cut : chooseOf Nested tied (low ++ (9 ∷ [])) high ≡ low
+unfolding tied low high headerOf stackOf every tabulate measureIn placedOf legal each eachPair groupsOf topOf rowSum greatest lastGap folded foldGap layoutWidth layoutHeight
+winner-cut = refl
+
+-- Where measuring would refuse one of the two, or the file, the part is empty.
+second-short : chooseOf Nested tied low [] ≡ []
+unfolding tied low headerOf stackOf every tabulate measureIn placedOf legal each eachPair groupsOf topOf rowSum greatest lastGap folded foldGap layoutWidth layoutHeight
+second-short = refl
+
+first-short : chooseOf Nested tied [] low ≡ []
+unfolding tied low headerOf stackOf every tabulate measureIn placedOf legal each eachPair groupsOf topOf rowSum greatest lastGap folded foldGap layoutWidth layoutHeight
+first-short = refl
+
+second-broken : chooseOf Nested tied low (1 ∷ 0 ∷ 0 ∷ 1 ∷ 0 ∷ 2 ∷ []) ≡ []
+unfolding tied low headerOf stackOf every tabulate measureIn placedOf legal each eachPair groupsOf topOf rowSum greatest lastGap folded foldGap layoutWidth layoutHeight
+second-broken = refl
+
+file-refused : chooseOf Nested [] low high ≡ []
+unfolding headerOf
+file-refused = refl

@@ -13,12 +13,11 @@ use Rattle.terms.specs.Answer.{Answer, refusal, result}
 use Rattle.terms.specs.Component.{mostOf, stackOf, countOf, every}
 use Rattle.terms.proofs.Answers.{stack-is, most-256, result-same}
 use Rattle.terms.proofs.Lists.{AllSized, all-sized}
+use Rattle.stack.specs.File.{headerOf}
 use Rattle.folding.specs.declared.Outline.{Outline}
 use Rattle.folding.specs.declared.Placement.{Placement}
 use Rattle.fold.specs.Calls.{workCheck, foldChecks}
-use Rattle.fold.proofs.OneAnswer.{one-for-height, one-for-width, met-height, met-width, the-best, there-is-none}
 use Rattle.fold_table.specs.Calls.{tableAnswer}
-use Rattle.fold_table.proofs.Tables.{the-table}
 use Rattle.folding.specs.Best.{BestForHeight, BestForWidth, UnmeetableHeight, UnmeetableWidth, Listing}
 use Rattle.group.specs.Rows.{tall, rows}
 use Rattle.group.specs.Group.{none, gapAfter, widest, lowest, leastHeight, firstFrom}
@@ -28,7 +27,8 @@ use Rattle.layout.proofs.Heights.{AllGaps, all-gaps}
 use Rattle.layout.proofs.Reach.{reach}
 use Rattle.layout.proofs.Best.{best-height, unmeetable-height, Below, best-width, unmeetable-width}
 use Rattle.layout.proofs.Table as tables
-use Rattle.known.specs.Known.{Line, to-height, to-width, table, size, lent, table-work, table-room, Holds, Answers, AllHold, units, lines}
+use Rattle.known.proofs.Answering.{answers}
+use Rattle.known.specs.Known.{Line, to-height, to-width, table, header, size, lent, table-work, table-room, Holds, Answers, AllHold, units, lines}
 
 -- What the layout of a stack answers for a height.
 abbrev answerOf : Bool → Layout → Answer Outline
@@ -48,6 +48,7 @@ Computed (to-width kind cs limit (refusal k)) = IsStack kind cs × (k ≡ 9) × 
 Computed (to-width kind cs limit (result o)) =
     IsStack kind cs × (found kind (o .height .0) cs ≡ result o) × (leb (o .width .0) limit ≡ true) × (ltb limit (layoutOf kind (o .height .0 - 1) 0 cs .width) ≡ true)
 Computed (table kind cs os) = IsStack kind cs × (outlines kind cs 2000000 2000000 ≡ os)
+Computed (header file k) = headerOf file ≡ refusal k
 Computed (size kind cs a) = countOf (stackOf (mostOf kind) cs) ≡ a
 Computed (lent limit out work a) = foldChecks limit out work 1 1 ≡ a
 Computed (table-work n a) = workCheck n 1 ≡ a
@@ -58,9 +59,9 @@ AllComputed [] = Unit {0}
 AllComputed (l ∷ ls) = Computed l × AllComputed ls
 
 computed : AllComputed lines
-unfolding lines tall rows gapAfter widest lowest leastHeight firstFrom scan layouts outlines stackOf every units
+unfolding lines headerOf tall rows gapAfter widest lowest leastHeight firstFrom scan layouts outlines stackOf every units
 computed =
-    ((refl, refl), ((refl, refl), ((refl, refl), ((refl, refl), ((refl, refl, refl), ((refl, refl, refl), ((refl, refl), ((refl, refl, refl, refl), ((refl, refl), ((refl, refl), ((refl, refl), ((refl, refl), ((refl, refl), ((refl, refl, refl, refl), ((refl, refl), ((refl, refl), ((refl, refl), (refl, (refl, (refl, (refl, (refl, (refl, (refl, (refl, (refl, (refl, (refl, (refl, (refl, (refl, (refl, (refl, (refl, tt))))))))))))))))))))))))))))))))))
+    ((refl, refl), ((refl, refl), ((refl, refl), ((refl, refl), ((refl, refl, refl), ((refl, refl, refl), ((refl, refl), ((refl, refl, refl, refl), ((refl, refl), ((refl, refl), ((refl, refl), ((refl, refl), ((refl, refl), ((refl, refl, refl, refl), ((refl, refl), ((refl, refl), ((refl, refl), (refl, (refl, (refl, (refl, (refl, (refl, (refl, (refl, (refl, (refl, (refl, (refl, (refl, (refl, (refl, (refl, (refl, (refl, (refl, (refl, (refl, (refl, (refl, (refl, (refl, (refl, (refl, (refl, (refl, (refl, tt)))))))))))))))))))))))))))))))))))))))))))))))
 
 -- What a stack's check says.
 module _ (kind : Kind) (cs : List Component) (e : IsStack kind cs) where
@@ -104,26 +105,11 @@ sound (to-height kind cs limit (result o)) h =
 sound (to-width kind cs limit (refusal k)) h = (h .1, unmeetable-width kind cs (stack-few kind cs (h .0)) (stack-sized kind cs (h .0)) (stack-gaps kind cs (h .0)) limit (ltb-true _ _ (h .2)))
 sound (to-width kind cs limit (result o)) h = width-found kind cs limit o (h .0) (met-is _ (layoutOf kind (o .height .0) 0 cs) o refl (h .1)) (leb-true _ _ (h .2)) (ltb-true _ _ (h .3))
 sound (table kind cs os) h = subst (Listing kind cs) (h .1) (tables.table kind cs (stack-some kind cs (h .0)) (stack-few kind cs (h .0)) (stack-sized kind cs (h .0)) (stack-gaps kind cs (h .0)))
+sound (header file k) h = h
 sound (size kind cs a) h = h
 sound (lent limit out work a) h = h
 sound (table-work n a) h = h
 sound (table-room n os a) h = h
-
--- The calls can answer nothing else.
-answers : (l : Line) → Holds l → Answers l
-answers (to-height kind cs limit (refusal k)) h = λ file out work out′ work′ answer v t.
-    there-is-none BestForHeight UnmeetableHeight kind cs limit (one-for-height kind cs limit) (met-height kind cs limit) out work out′ work′ answer _ v t (h .1) ∙ ap refusal (sym (h .0))
-answers (to-height kind cs limit (result o)) h = λ file out work out′ work′ answer v t.
-    the-best BestForHeight UnmeetableHeight kind cs limit (one-for-height kind cs limit) (met-height kind cs limit) out work out′ work′ answer _ v t (h .0) o (h .1)
-answers (to-width kind cs limit (refusal k)) h = λ file out work out′ work′ answer v t.
-    there-is-none BestForWidth UnmeetableWidth kind cs limit (one-for-width kind cs limit) (met-width kind cs limit) out work out′ work′ answer _ v t (h .1) ∙ ap refusal (sym (h .0))
-answers (to-width kind cs limit (result o)) h = λ file out work out′ work′ answer v t.
-    the-best BestForWidth UnmeetableWidth kind cs limit (one-for-width kind cs limit) (met-width kind cs limit) out work out′ work′ answer _ v t (h .0) o (h .1)
-answers (table kind cs os) h = λ file out work out′ work′ answer v t. the-table kind cs os h out work out′ work′ answer _ v t
-answers (size kind cs a) h = tt
-answers (lent limit out work a) h = tt
-answers (table-work n a) h = tt
-answers (table-room n os a) h = tt
 
 all-sound : (ls : List Line) → AllComputed ls → AllHold ls
 all-sound [] h = tt

@@ -1,27 +1,31 @@
 -- The known stacks (document 01, "Known stacks"): one list of lines, each a claim about all legal foldings of its stack and
--- kind and about what the calls answer, or about a refusal.
-use Prim.Native.Nat.{ℕ, zero, suc}
+-- kind or about a refusal, and about what the calls answer.
+use Prim.Native.Nat.{ℕ, zero, suc, _*_, _≤_}
 use mathlib.Core.Path.{_≡_}
 use mathlib.Core.List.{List, [], _∷_}
-use lib.ListN.{length}
+use lib.ListN.{length, drop}
 use Rattle.terms.specs.declared.Component.{Component}
 use Rattle.terms.specs.declared.Kind.{Kind}
 use Rattle.terms.specs.declared.Kind.the-variants.{Apart, Nested}
 use Rattle.terms.specs.Answer.{Answer, refusal, result}
-use Rattle.terms.specs.Component.{mostOf, stackOf, countOf}
+use Rattle.terms.specs.Component.{mostOf, stackOf, countOf, widthSum}
+use Rattle.stack.specs.File.{headerOf, componentsOf, checkOf}
+use Rattle.stack.specs.Calls.{readOf}
 use Rattle.folding.specs.declared.Placement.{Placement}
 use Rattle.folding.specs.declared.Outline.{Outline}
+use Rattle.folding.specs.Calls.{measureOf, chooseOf}
 use Rattle.folding.specs.Best.{BestForHeight, BestForWidth, UnmeetableHeight, UnmeetableWidth, Listing}
 use Rattle.fold.specs.Calls.{workCheck, foldChecks, validOf, ToHeight, ToWidth}
 use Rattle.fold_table.specs.Calls.{tableValidOf, tableAnswer, tableInto, TableOf}
 
--- `size`: the refusals of a list of components. `lent`: those of a fold call's limit, placement buffer and work buffer, for
--- one component. `table-work`: that of the table's work buffer. `table-room`: that of its pairs, for a table of these
--- outlines.
+-- `header`: the refusal of a file by its first seven bytes and its length. `size`: those of a list of components. `lent`: those
+-- of a fold call's limit, placement buffer and work buffer, for one component. `table-work`: that of the table's work buffer.
+-- `table-room`: that of its pairs, for a table of these outlines.
 pub data Line : Type 0 where
   to-height : Kind → List Component → ℕ → Answer Outline → Line
   to-width : Kind → List Component → ℕ → Answer Outline → Line
   table : Kind → List Component → List Outline → Line
+  header : List ℕ → ℕ → Line
   size : Kind → List Component → Answer ℕ → Line
   lent : ℕ → ℕ → ℕ → Answer ℕ → Line
   table-work : ℕ → Answer ℕ → Line
@@ -34,25 +38,71 @@ Holds (to-height kind cs limit (result o)) = (ps : List Placement) × BestForHei
 Holds (to-width kind cs limit (refusal k)) = (k ≡ 9) × UnmeetableWidth kind cs limit
 Holds (to-width kind cs limit (result o)) = (ps : List Placement) × BestForWidth kind cs limit ps o
 Holds (table kind cs os) = Listing kind cs os
+Holds (header file k) = headerOf file ≡ refusal k
 Holds (size kind cs a) = countOf (stackOf (mostOf kind) cs) ≡ a
 Holds (lent limit out work a) = foldChecks limit out work 1 1 ≡ a
 Holds (table-work n a) = workCheck n 1 ≡ a
 Holds (table-room n os a) = tableAnswer n os ≡ a
 
--- What the calls answer, and the table writes, for every file that reads to the stack, whatever the lent buffers hold: no
--- other answer keeps their promise.
+-- What a fold call leaves in the placements' buffer, for n components: after a result a folding that measures to it, and all
+-- beyond as it was; after a refusal all as it was.
+abbrev pub Leaves : Kind → List ℕ → ℕ → List ℕ → List ℕ → Answer Outline → Type 0
+Leaves kind file n out out′ (refusal k) = out′ ≡ out
+Leaves kind file n out out′ (result o) = (measureOf kind file out′ ≡ result o) × (drop (3 * n) out′ ≡ drop (3 * n) out)
+
+-- The file's bytes hold these components, whether or not they are a stack.
+abbrev pub Has : List Component → List ℕ → Type 0
+Has cs file = (headerOf file ≡ result (length cs)) × (componentsOf file (length cs) ≡ cs)
+
+-- The fold calls and the table refuse with k, and leave all that was lent as it was.
+abbrev pub FoldsRefuse : Kind → List ℕ → ℕ → List ℕ → List ℕ → ℕ → Type 0
+FoldsRefuse kind file limit out work k = (out′ work′ : List ℕ) (answer : Answer Outline)
+    → (ToHeight kind file limit out work answer out′ work′ → (answer ≡ refusal k) × (out′ ≡ out) × (work′ ≡ work))
+    × (ToWidth kind file limit out work answer out′ work′ → (answer ≡ refusal k) × (out′ ≡ out) × (work′ ≡ work))
+
+abbrev pub TableRefuses : Kind → List ℕ → List ℕ → List ℕ → ℕ → Type 0
+TableRefuses kind file out work k = (out′ work′ : List ℕ) (answer : Answer ℕ)
+    → TableOf kind file out work answer out′ work′ → (answer ≡ refusal k) × (out′ ≡ out) × (work′ ≡ work)
+
+-- Every call that takes the file and the kind refuses it with k, whatever the limit, the foldings and the lent buffers: the
+-- refusals of a file come first.
+pub record Refuses (kind : Kind) (file : List ℕ) (k : ℕ) : Type 0 where
+  pub checking : checkOf kind file ≡ refusal k
+  pub reading : (heights widths gaps : ℕ) → readOf kind file heights widths gaps ≡ refusal k
+  pub measuring : (flat : List ℕ) → measureOf kind file flat ≡ refusal k
+  pub choosing : (first second : List ℕ) → chooseOf kind file first second ≡ []
+  pub folding : (limit : ℕ) (out work : List ℕ) → FoldsRefuse kind file limit out work k
+  pub listing : (out work : List ℕ) → TableRefuses kind file out work k
+
+-- What the calls answer, and what they leave in the lent buffers, for every file that reads to the stack and whatever the
+-- buffers hold: no other answer keeps their promise.
 abbrev pub Answers : Line → Type 0
 Answers (to-height kind cs limit a) = (file out work out′ work′ : List ℕ) (answer : Answer Outline)
-    → validOf kind file limit out work ≡ result cs → ToHeight kind file limit out work answer out′ work′ → answer ≡ a
+    → validOf kind file limit out work ≡ result cs → ToHeight kind file limit out work answer out′ work′
+    → (answer ≡ a) × Leaves kind file (length cs) out out′ a
 Answers (to-width kind cs limit a) = (file out work out′ work′ : List ℕ) (answer : Answer Outline)
-    → validOf kind file limit out work ≡ result cs → ToWidth kind file limit out work answer out′ work′ → answer ≡ a
+    → validOf kind file limit out work ≡ result cs → ToWidth kind file limit out work answer out′ work′
+    → (answer ≡ a) × Leaves kind file (length cs) out out′ a
 Answers (table kind cs os) = (file out work out′ work′ : List ℕ) (answer : Answer ℕ)
     → tableValidOf kind file work ≡ result cs → TableOf kind file out work answer out′ work′
     → (answer ≡ tableAnswer (length out) os) × (out′ ≡ tableInto os out)
-Answers (size kind cs a) = Unit {0}
-Answers (lent limit out work a) = Unit {0}
-Answers (table-work n a) = Unit {0}
-Answers (table-room n os a) = Unit {0}
+    × (2 * widthSum cs ≤ length out → answer ≡ result (length os))
+Answers (header file k) = (kind : Kind) → Refuses kind file k
+Answers (size kind cs (refusal k)) = (file : List ℕ) → Has cs file → Refuses kind file k
+Answers (size kind cs (result n)) = (file : List ℕ) → Has cs file → checkOf kind file ≡ result cs
+Answers (lent limit o w (refusal k)) = (kind : Kind) (file out work : List ℕ) (cs : List Component)
+    → checkOf kind file ≡ result cs → length cs ≡ 1 → length out ≡ o → length work ≡ w
+    → FoldsRefuse kind file limit out work k
+Answers (lent limit o w (result n)) = (kind : Kind) (file out work : List ℕ) (cs : List Component)
+    → checkOf kind file ≡ result cs → length cs ≡ 1 → length out ≡ o → length work ≡ w
+    → validOf kind file limit out work ≡ result cs
+Answers (table-work w (refusal k)) = (kind : Kind) (file out work : List ℕ) (cs : List Component)
+    → checkOf kind file ≡ result cs → length work ≡ w → TableRefuses kind file out work k
+Answers (table-work w (result n)) = (kind : Kind) (file work : List ℕ) (cs : List Component)
+    → checkOf kind file ≡ result cs → length work ≡ w → tableValidOf kind file work ≡ result cs
+Answers (table-room n os a) = (kind : Kind) (cs : List Component) (file out work out′ work′ : List ℕ) (answer : Answer ℕ)
+    → Listing kind cs os → tableValidOf kind file work ≡ result cs → length out ≡ n → TableOf kind file out work answer out′ work′
+    → answer ≡ a
 
 abbrev pub AllHold : List Line → Type 0
 AllHold [] = Unit {0}
@@ -107,12 +157,25 @@ lines =
     ∷ table Apart E (o 3 4 ∷ o 6 2 ∷ o 8 1 ∷ [])
     ∷ table Nested E (o 3 3 ∷ o 6 2 ∷ o 8 1 ∷ [])
     ∷ to-height Nested F 2 (result (o 10 2))
+    ∷ header [] 1
+    ∷ header (83 ∷ 84 ∷ 76 ∷ 2 ∷ 0 ∷ 1 ∷ 0 ∷ []) 1
+    ∷ header (83 ∷ 84 ∷ 75 ∷ 2 ∷ 0 ∷ 1 ∷ 0 ∷ []) 2
+    ∷ header (83 ∷ 84 ∷ 75 ∷ 1 ∷ 0 ∷ 1 ∷ 0 ∷ []) 3
+    ∷ size Nested [] (refusal 4)
     ∷ size Nested (units 64) (result 64)
     ∷ size Nested (units 65) (refusal 4)
     ∷ size Apart (units 256) (result 256)
     ∷ size Apart (units 257) (refusal 4)
-    ∷ size Apart (c 4000 1 0 ∷ []) (result 1)
+    ∷ size Nested (c 0 1 0 ∷ units 64) (refusal 4)
+    ∷ size Apart (c 4000 4000 0 ∷ []) (result 1)
+    ∷ size Apart (c 0 1 0 ∷ []) (refusal 5)
     ∷ size Apart (c 4001 1 0 ∷ []) (refusal 5)
+    ∷ size Apart (c 1 0 0 ∷ []) (refusal 5)
+    ∷ size Apart (c 1 4001 0 ∷ []) (refusal 5)
+    ∷ size Apart (c 1 1 4001 ∷ c 0 1 0 ∷ []) (refusal 5)
+    ∷ size Apart (c 1 1 4000 ∷ c 1 1 0 ∷ []) (result 2)
+    ∷ size Apart (c 1 1 4001 ∷ c 1 1 0 ∷ []) (refusal 6)
+    ∷ size Apart (c 1 1 0 ∷ c 1 1 1 ∷ []) (refusal 6)
     ∷ lent 2000000 3 8192 (result 1)
     ∷ lent 2000001 3 8192 (refusal 7)
     ∷ lent 1 3 8192 (result 1)

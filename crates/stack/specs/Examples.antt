@@ -1,4 +1,4 @@
--- Worked examples of the check, by computation.
+-- Worked examples of the check, the reading and the lookup, by computation.
 use Prim.Native.Nat.{ℕ}
 use mathlib.Core.Path.{_≡_, refl}
 use mathlib.Core.List.{List, [], _∷_, _++_}
@@ -7,7 +7,7 @@ use Rattle.terms.specs.declared.Kind.the-variants.{Apart, Nested}
 use Rattle.terms.specs.Answer.{refusal, result}
 use Rattle.terms.specs.Component.{every, stackOf, tabulate}
 use Rattle.stack.specs.File.{headerOf, checkOf}
-use Rattle.stack.specs.Calls.{lookupOf}
+use Rattle.stack.specs.Calls.{readOf, lookupOf}
 
 component : ℕ → ℕ → ℕ → Component
 component h w g = record { height = record { 0 = h }; width = record { 0 = w }; gap = record { 0 = g } }
@@ -29,8 +29,11 @@ unfolding good front headerOf stackOf every tabulate
 second = refl
 
 -- a gap of 4,001 before a height of 0: the height is refused
-mixed : checkOf Apart (front ++ (5 ∷ 0 ∷ 6 ∷ 0 ∷ 161 ∷ 15 ∷ 0 ∷ 0 ∷ 1 ∷ 0 ∷ 0 ∷ 0 ∷ [])) ≡ refusal 5
-unfolding front headerOf stackOf every tabulate
+mixed-file : List ℕ
+mixed-file = front ++ (5 ∷ 0 ∷ 6 ∷ 0 ∷ 161 ∷ 15 ∷ 0 ∷ 0 ∷ 1 ∷ 0 ∷ 0 ∷ 0 ∷ [])
+
+mixed : checkOf Apart mixed-file ≡ refusal 5
+unfolding mixed-file front headerOf stackOf every tabulate
 mixed = refl
 
 -- a last gap of 1
@@ -42,14 +45,50 @@ short : checkOf Apart front ≡ refusal 3
 unfolding front headerOf
 short = refl
 
+-- one byte too many
+long : checkOf Apart (83 ∷ 84 ∷ 75 ∷ 1 ∷ 0 ∷ 0 ∷ 0 ∷ 9 ∷ []) ≡ refusal 3
+unfolding headerOf
+long = refl
+
 none : checkOf Apart (83 ∷ 84 ∷ 75 ∷ 1 ∷ 0 ∷ 0 ∷ 0 ∷ []) ≡ refusal 4
 unfolding headerOf stackOf every tabulate
 none = refl
 
-version : checkOf Apart (83 ∷ 84 ∷ 75 ∷ 0 ∷ 1 ∷ 0 ∷ 0 ∷ []) ≡ refusal 2
+-- the version before the length, and the letters before both
+version : checkOf Apart (83 ∷ 84 ∷ 75 ∷ 2 ∷ 0 ∷ 5 ∷ 0 ∷ []) ≡ refusal 2
 unfolding headerOf
 version = refl
+
+version-high : checkOf Apart (83 ∷ 84 ∷ 75 ∷ 0 ∷ 1 ∷ 0 ∷ 0 ∷ []) ≡ refusal 2
+unfolding headerOf
+version-high = refl
+
+letters-other : checkOf Apart (83 ∷ 84 ∷ 76 ∷ 2 ∷ 0 ∷ 5 ∷ 0 ∷ []) ≡ refusal 1
+unfolding headerOf
+letters-other = refl
 
 letters-alone : checkOf Apart (83 ∷ 84 ∷ 75 ∷ []) ≡ refusal 1
 unfolding headerOf
 letters-alone = refl
+
+-- a bad component before a short list
+mixed-read : readOf Apart mixed-file 0 0 0 ≡ refusal 5
+unfolding mixed-file front headerOf stackOf every tabulate
+mixed-read = refl
+
+good-read : readOf Apart good 2 2 1 ≡ refusal 8
+unfolding good front headerOf stackOf every tabulate
+good-read = refl
+
+-- no component has the number 0, or 3 of two, or any number in a refused file
+looked-below : lookupOf good 0 ≡ []
+unfolding good front headerOf stackOf every tabulate
+looked-below = refl
+
+looked-past : lookupOf good 3 ≡ []
+unfolding good front headerOf stackOf every tabulate
+looked-past = refl
+
+looked-refused : lookupOf mixed-file 1 ≡ []
+unfolding mixed-file front headerOf stackOf every tabulate
+looked-refused = refl

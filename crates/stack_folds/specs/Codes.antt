@@ -2,9 +2,9 @@
 -- cannot be confused.
 use Prim.Native.Nat.{ℕ, _+_, _-_, _*_}
 use mathlib.Core.Path.{_≡_}
-use mathlib.Core.List.{List}
+use mathlib.Core.List.{List, []}
 use mathlib.Core.Bool.{Bool, true, false, cond, _&&_}
-use lib.ListN.{length}
+use lib.ListN.{length, take}
 use lib.Dec.{leb, eqb}
 use Rattle.terms.specs.declared.Component.{Component}
 use Rattle.terms.specs.declared.Kind.{Kind}
@@ -59,3 +59,11 @@ abbrev pub choiceCode : Winner → ℕ
 choiceCode First = 1
 choiceCode Second = 2
 choiceCode Neither = 0
+
+-- The placements that the number stands for: "The winner's placements are the first 3n numbers of its buffer."
+abbrev pub chosenPart : Answer (List Component) → ℕ → List ℕ → List ℕ → List ℕ
+chosenPart (refusal k) choice first second = []
+chosenPart (result cs) choice first second =
+    cond (eqb choice 1) (take (3 * length cs) first)
+    (cond (eqb choice 2) (take (3 * length cs) second)
+    [])

@@ -13,10 +13,10 @@ ghost use Rattle.terms.specs.declared.Kind.the-variants.{Apart};
 ghost use Rattle.stack.specs.File.{checkOf};
 ghost use Rattle.stack.specs.Calls.{Read, lookupOf};
 ghost use Rattle.stack_write.specs.Call.{Wrote};
-ghost use Rattle.folding.specs.Calls.{measuredAnswer, measureOf, winnerIs};
+ghost use Rattle.folding.specs.Calls.{measuredAnswer, measureOf, winnerIs, chooseOf};
 ghost use Rattle.fold.specs.Calls.{ToHeight, ToWidth};
 ghost use Rattle.fold_table.specs.Calls.{TableOf};
-ghost use Rattle.stack_folds.specs.Codes.{kindOf, countCode, outlineCode, partCode, choiceCode};
+ghost use Rattle.stack_folds.specs.Codes.{kindOf, countCode, outlineCode, partCode, choiceCode, chosenPart};
 ghost use Rattle.stack_folds.specs.Codes.{countOfCode, outlineOfCode, PlainCount, PlainOutline};
 
 // A refusal and 0, or 0 and a number of components, bytes or pairs.
@@ -171,6 +171,8 @@ pub extern "C" fn folds_choose(file: &[u8], nested: bool, first: &[u32], second:
     ensures { λ r. ⌜ r ≡ choiceCode (winnerIs
         (measureOf (kindOf nested) (now (file .entry)) (now (first .entry)))
         (measureOf (kindOf nested) (now (file .entry)) (now (second .entry)))) ⌝ }
+    ensures { λ r. ⌜ chosenPart (checkOf (kindOf nested) (now (file .entry))) r (now (first .entry)) (now (second .entry))
+        ≡ chooseOf (kindOf nested) (now (file .entry)) (now (first .entry)) (now (second .entry)) ⌝ }
 {
     let kind = kind_of(nested);
     let a = folding::measure(file, kind, first);

@@ -1,3 +1,4 @@
 pub mod File
 pub mod Call
 pub mod Inner
+mod Examples

@@ -1,0 +1,80 @@
+-- The calls can answer nothing else than the lines say: their promises leave one answer.
+use Prim.Native.Nat.{ℕ}
+use mathlib.Core.Path.{_≡_, refl, sym, ap, _∙_}
+use mathlib.Core.List.{List}
+use mathlib.Core.Bool.{Bool, true, false}
+use native.Mathlib.Omega.{arith}
+use lib.ListN.{length}
+use lib.Dec.{ltb}
+use Rattle.terms.specs.declared.Component.{Component}
+use Rattle.terms.specs.declared.Kind.{Kind}
+use Rattle.terms.specs.Answer.{Answer, refusal, result, refuseIf}
+use Rattle.terms.specs.Component.{mostOf, stackOf}
+use Rattle.terms.proofs.Answers.{stack-is, counted, uncounted}
+use Rattle.stack.specs.File.{checkOf}
+use Rattle.folding.specs.declared.Outline.{Outline}
+use Rattle.folding.specs.Best.{BestForHeight, BestForWidth, UnmeetableHeight, UnmeetableWidth}
+use Rattle.fold.specs.Calls.{validOf}
+use Rattle.fold.proofs.Checks.{Lent, lent, all-well, refused-alike}
+use Rattle.fold.proofs.OneAnswer.{one-for-height, one-for-width, met-height, met-width, the-best, there-is-none, best-left, none-left, refused-call, measures}
+use Rattle.fold_table.specs.Calls.{tableValidOf}
+use Rattle.fold_table.proofs.Tables as tables
+use Rattle.known.specs.Known.{Line, to-height, to-width, table, header, size, lent as lent-line, table-work, table-room, Holds, Answers, FoldsRefuse, TableRefuses, Refuses}
+
+folds-refuse : (kind : Kind) (file : List ℕ) (limit : ℕ) (out work : List ℕ) (k : ℕ) → validOf kind file limit out work ≡ refusal k → FoldsRefuse kind file limit out work k
+folds-refuse kind file limit out work k e = λ out′ work′ answer.
+    (λ t. refused-call BestForHeight UnmeetableHeight kind limit out work out′ work′ answer k _ e t, λ t. refused-call BestForWidth UnmeetableWidth kind limit out work out′ work′ answer k _ e t)
+
+table-refuses : (kind : Kind) (file out work : List ℕ) (k : ℕ) → tableValidOf kind file work ≡ refusal k → TableRefuses kind file out work k
+table-refuses kind file out work k e = λ out′ work′ answer t. tables.refused-call kind out work out′ work′ answer k _ e t
+
+-- A refused file is refused by every call.
+refuses : (kind : Kind) (file : List ℕ) (k : ℕ) → checkOf kind file ≡ refusal k → Refuses kind file k
+refuses kind file k e = record {
+  checking = e;
+  reading = λ heights widths gaps. rw e;
+  measuring = λ flat. rw e;
+  choosing = λ first second. rw e;
+  folding = λ limit out work. folds-refuse kind file limit out work k (rw e);
+  listing = λ out work. table-refuses kind file out work k (rw e);
+}
+
+-- The check of a work buffer says the same of every value.
+module _ {A B : Type 0} (v : A) (u : B) where
+  alike-refused : (k : ℕ) (b : Bool) → refuseIf b 8 (result v) ≡ refusal k → refuseIf b 8 (result u) ≡ refusal k
+  alike-refused k true e = let m : 8 ≡ k = cc in rw m
+  alike-refused k false e = let z : _≡_ {A = ℕ} 0 1 = cc in absurd (omega arith)
+
+  alike-passed : (w : A) (b : Bool) → refuseIf b 8 (result v) ≡ result w → refuseIf b 8 (result u) ≡ result u
+  alike-passed w true e = let z : _≡_ {A = ℕ} 0 1 = cc in absurd (omega arith)
+  alike-passed w false e = refl
+
+pub answers : (l : Line) → Holds l → Answers l
+answers (to-height kind cs limit (refusal k)) h = λ file out work out′ work′ answer v t.
+    let q = there-is-none BestForHeight UnmeetableHeight kind cs limit (one-for-height kind cs limit) (met-height kind cs limit) out work out′ work′ answer _ v t (h .1) in
+    (q ∙ ap refusal (sym (h .0)), none-left BestForHeight UnmeetableHeight kind cs limit (one-for-height kind cs limit) (met-height kind cs limit) out work out′ work′ answer _ v t 9 q)
+answers (to-height kind cs limit (result o)) h = λ file out work out′ work′ answer v t.
+    let q = the-best BestForHeight UnmeetableHeight kind cs limit (one-for-height kind cs limit) (met-height kind cs limit) out work out′ work′ answer _ v t (h .0) o (h .1) in
+    let s = best-left BestForHeight UnmeetableHeight kind cs limit (one-for-height kind cs limit) (met-height kind cs limit) out work out′ work′ answer _ v t o q in
+    (q, (measures kind file limit out work cs v out′ o (s .2) (s .0 .is-legal) (s .0 .has), s .1))
+answers (to-width kind cs limit (refusal k)) h = λ file out work out′ work′ answer v t.
+    let q = there-is-none BestForWidth UnmeetableWidth kind cs limit (one-for-width kind cs limit) (met-width kind cs limit) out work out′ work′ answer _ v t (h .1) in
+    (q ∙ ap refusal (sym (h .0)), none-left BestForWidth UnmeetableWidth kind cs limit (one-for-width kind cs limit) (met-width kind cs limit) out work out′ work′ answer _ v t 9 q)
+answers (to-width kind cs limit (result o)) h = λ file out work out′ work′ answer v t.
+    let q = the-best BestForWidth UnmeetableWidth kind cs limit (one-for-width kind cs limit) (met-width kind cs limit) out work out′ work′ answer _ v t (h .0) o (h .1) in
+    let s = best-left BestForWidth UnmeetableWidth kind cs limit (one-for-width kind cs limit) (met-width kind cs limit) out work out′ work′ answer _ v t o q in
+    (q, (measures kind file limit out work cs v out′ o (s .2) (s .0 .is-legal) (s .0 .has), s .1))
+answers (table kind cs os) h = λ file out work out′ work′ answer v t. tables.the-table kind cs os h out work out′ work′ answer _ v t
+answers (header file k) h = λ kind. refuses kind file k (rw h)
+answers (size kind cs (refusal k)) h = λ file b. refuses kind file k (rw (b .0, b .1) (uncounted (stackOf (mostOf kind) cs) k h))
+answers (size kind cs (result n)) h = λ file b.
+    let s = counted (stackOf (mostOf kind) cs) n h in
+    rw (b .0, b .1) (s .1 ∙ ap result (sym (stack-is (mostOf kind) cs (s .0) (s .1) .0)))
+answers (lent-line limit o w (refusal k)) h = λ kind file out work cs e n a b.
+    folds-refuse kind file limit out work k (rw (e, n, a, b) (refused-alike limit o w 1 1 cs k h))
+answers (lent-line limit o w (result m)) h = λ kind file out work cs e n a b.
+    let l : Lent limit o w 1 = lent limit o w 1 1 m h in
+    rw (e, n, a, b) (sym (all-well limit o w 1 cs (l .low) (l .high) (l .room) (l .work-room)))
+answers (table-work w (refusal k)) h = λ kind file out work cs e b. table-refuses kind file out work k (rw (e, b) (alike-refused 1 cs k (ltb w 8192) h))
+answers (table-work w (result m)) h = λ kind file work cs e b. rw (e, b) (alike-passed 1 cs m (ltb w 8192) h)
+answers (table-room n os a) h = λ kind cs file out work out′ work′ answer l v m t. tables.the-table kind cs os l out work out′ work′ answer _ v t .0 ∙ rw m h
