@@ -1,18 +1,12 @@
 -- The calls can answer nothing else than the lines say: their promises leave one answer.
 use Prim.Native.Nat.{ℕ}
-use mathlib.Core.Path.{_≡_, refl, sym, ap, _∙_}
+use mathlib.Core.Path.{_≡_, sym, ap, _∙_}
 use mathlib.Core.List.{List}
-use mathlib.Core.Bool.{Bool, true, false}
-use native.Mathlib.Omega.{arith}
-use lib.ListN.{length}
-use lib.Dec.{ltb}
-use Rattle.terms.specs.declared.Component.{Component}
 use Rattle.terms.specs.declared.Kind.{Kind}
-use Rattle.terms.specs.Answer.{Answer, refusal, result, refuseIf}
+use Rattle.terms.specs.Answer.{refusal, result}
 use Rattle.terms.specs.Component.{mostOf, stackOf}
 use Rattle.terms.proofs.Answers.{stack-is, counted, uncounted}
 use Rattle.stack.specs.File.{checkOf}
-use Rattle.folding.specs.declared.Outline.{Outline}
 use Rattle.folding.specs.Best.{BestForHeight, BestForWidth, UnmeetableHeight, UnmeetableWidth}
 use Rattle.fold.specs.Calls.{validOf}
 use Rattle.fold.proofs.Checks.{Lent, lent, all-well, refused-alike}
@@ -38,16 +32,6 @@ refuses kind file k e = record {
   folding = λ limit out work. folds-refuse kind file limit out work k (rw e);
   listing = λ out work. table-refuses kind file out work k (rw e);
 }
-
--- The check of a work buffer says the same of every value.
-module _ {A B : Type 0} (v : A) (u : B) where
-  alike-refused : (k : ℕ) (b : Bool) → refuseIf b 8 (result v) ≡ refusal k → refuseIf b 8 (result u) ≡ refusal k
-  alike-refused k true e = let m : 8 ≡ k = cc in rw m
-  alike-refused k false e = let z : _≡_ {A = ℕ} 0 1 = cc in absurd (omega arith)
-
-  alike-passed : (w : A) (b : Bool) → refuseIf b 8 (result v) ≡ result w → refuseIf b 8 (result u) ≡ result u
-  alike-passed w true e = let z : _≡_ {A = ℕ} 0 1 = cc in absurd (omega arith)
-  alike-passed w false e = refl
 
 pub answers : (l : Line) → Holds l → Answers l
 answers (to-height kind cs limit (refusal k)) h = λ file out work out′ work′ answer v t.
@@ -75,6 +59,9 @@ answers (lent-line limit o w (refusal k)) h = λ kind file out work cs e n a b.
 answers (lent-line limit o w (result m)) h = λ kind file out work cs e n a b.
     let l : Lent limit o w 1 = lent limit o w 1 1 m h in
     rw (e, n, a, b) (sym (all-well limit o w 1 cs (l .low) (l .high) (l .room) (l .work-room)))
-answers (table-work w (refusal k)) h = λ kind file out work cs e b. table-refuses kind file out work k (rw (e, b) (alike-refused 1 cs k (ltb w 8192) h))
-answers (table-work w (result m)) h = λ kind file work cs e b. rw (e, b) (alike-passed 1 cs m (ltb w 8192) h)
+-- With a limit of 1 and room for one placement a fold call checks the work buffer alone, as the table does.
+answers (table-work w (refusal k)) h = λ kind file out work cs e b. table-refuses kind file out work k (rw (e, b) (refused-alike 1 3 w 1 1 cs k h))
+answers (table-work w (result m)) h = λ kind file work cs e b.
+    let l : Lent 1 3 w 1 = lent 1 3 w 1 1 m h in
+    rw (e, b) (sym (all-well 1 3 w 1 cs (l .low) (l .high) (l .room) (l .work-room)))
 answers (table-room n os a) h = λ kind cs file out work out′ work′ answer l v m t. tables.the-table kind cs os l out work out′ work′ answer _ v t .0 ∙ rw m h

@@ -1,6 +1,6 @@
 -- The known stacks, proved: each line by computation through the layout's definitions and by the theorems on them.
 use Prim.Native.Nat.{ℕ, _-_, _≤_, _<_}
-use mathlib.Core.Path.{_≡_, refl, sym, ap, subst, _∙_}
+use mathlib.Core.Path.{_≡_, refl, sym, ap, subst}
 use mathlib.Core.List.{List, [], _∷_}
 use mathlib.Core.Bool.{Bool, true, false}
 use native.Mathlib.Omega.{arith}
@@ -18,7 +18,7 @@ use Rattle.folding.specs.declared.Outline.{Outline}
 use Rattle.folding.specs.declared.Placement.{Placement}
 use Rattle.fold.specs.Calls.{workCheck, foldChecks}
 use Rattle.fold_table.specs.Calls.{tableAnswer}
-use Rattle.folding.specs.Best.{BestForHeight, BestForWidth, UnmeetableHeight, UnmeetableWidth, Listing}
+use Rattle.folding.specs.Best.{BestForHeight, BestForWidth, Listing}
 use Rattle.group.specs.Rows.{tall, rows}
 use Rattle.group.specs.Group.{none, gapAfter, widest, lowest, leastHeight, firstFrom}
 use Rattle.layout.specs.Layout.{Layout, scan, layouts, layoutOf}
@@ -28,7 +28,7 @@ use Rattle.layout.proofs.Reach.{reach}
 use Rattle.layout.proofs.Best.{best-height, unmeetable-height, Below, best-width, unmeetable-width}
 use Rattle.layout.proofs.Table as tables
 use Rattle.known.proofs.Answering.{answers}
-use Rattle.known.specs.Known.{Line, to-height, to-width, table, header, size, lent, table-work, table-room, Holds, Answers, AllHold, units, lines}
+use Rattle.known.specs.Known.{Line, to-height, to-width, table, header, size, lent, table-work, table-room, Holds, AllHold, units, lines}
 
 -- What the layout of a stack answers for a height.
 abbrev answerOf : Bool → Layout → Answer Outline

@@ -1,16 +1,11 @@
 -- The numbers that the header gives, by computation.
-use Prim.Native.Nat.{ℕ}
 use mathlib.Core.Path.{_≡_, refl}
 use mathlib.Core.List.{[], _∷_}
 use mathlib.Core.Bool.{true, false}
 use Rattle.terms.specs.declared.Component.{Component}
 use Rattle.terms.specs.declared.Kind.the-variants.{Apart, Nested}
 use Rattle.terms.specs.Answer.{refusal, result}
-use Rattle.folding.specs.declared.Outline.{Outline}
 use Rattle.folding.specs.declared.Winner.the-variants.{First, Second, Neither}
-use Rattle.stack_folds.specs.declared.Count.{Count}
-use Rattle.stack_folds.specs.declared.Extent.{Extent}
-use Rattle.stack_folds.specs.declared.Part.{Part}
 use Rattle.stack_folds.specs.Codes.{kindOf, countCode, outlineCode, partCode, choiceCode, chosenPart}
 
 -- false is apart, true is nested
