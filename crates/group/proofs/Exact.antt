@@ -1,6 +1,7 @@
 -- The placements of a group with a fold point reach the least height; at the least width for a height they have that width.
 use Prim.Native.Nat.{ℕ, suc, _+_, _*_, _≤_, _<_, max}
 use mathlib.Core.Path.{_≡_, refl, sym, ap, _∙_, subst}
+use mathlib.Core.Logic.{_⊎_, inl, inr}
 use mathlib.Core.List.{List, [], _∷_, reverseAux, map, append-nil}
 use native.Mathlib.Nat.{le-antisymm}
 use native.Mathlib.Omega.{arith}
@@ -16,17 +17,18 @@ use Rattle.folding.specs.Placement.{placedOf}
 use Rattle.folding.specs.Outline.{groupWidth, groupHeight}
 use Rattle.folding.proofs.Sides.{Fronted}
 use Rattle.group.specs.Rows.{tall, rows, place}
-use Rattle.group.specs.Group.{none, leftSide, rightSide, gapAfter, widest, flatHeight, foldHeight, leastHeight, leastWidth, FoldPoint, nowhere, behind, onLeft, onRight, groupPlaces}
-use Rattle.group.proofs.Chains.{reached}
+use Rattle.group.specs.Group.{none, leftSide, rightSide, widest, flatHeight, wayHeight, leastHeight, leastWidth, FoldPoint, onLeft, onRight, groupPlaces}
+use Rattle.group.proofs.Chains.{order, reached}
 use Rattle.group.proofs.First.{first-met}
 use Rattle.group.proofs.Sides.{twice, both-sides, tall-sides, widest-sides}
-use Rattle.group.proofs.Lower.{componentsOf, Measured, measured, least-width}
+use Rattle.group.proofs.Ways.{Stands, way-flat, way-fold, point-stands}
+use Rattle.group.proofs.Lower.{componentsOf, Measured, measured, measured-least, least-width}
 use Rattle.group.proofs.Falls.{rows-most}
-use Rattle.group.proofs.Reach.{Built, flat-starts, fold-starts, placed-sides, stacked-length}
+use Rattle.group.proofs.Reach.{Built, sidesHeight, flat-starts, fold-starts, placed-sides, stacked-length}
 
-pub record Reached (kind : Kind) (m g0 c : ℕ) (cs : List Component) (ps : List Placement) : Type 0 where
+pub record Reached (kind : Kind) (m g0 c top p : ℕ) (cs : List Component) (ps : List Placement) : Type 0 where
   pub whole : length ps ≡ length cs
-  pub built : Built kind m g0 c cs (placedOf cs ps)
+  pub built : Built kind m g0 c top p cs (placedOf cs ps)
 
 abbrev placesOf : ℕ → ℕ → List Component → List Component → List Placement
 placesOf m c l r = reverseAux (onLeft m (place c 0 0 l r .on-left)) (onRight m (place c 0 0 l r .on-right))
@@ -58,27 +60,27 @@ unfolding rows tall
 rows-flat c [] = omega arith
 rows-flat c (x ∷ l) = omega arith
 
-flat-reached : (kind : Kind) (m g0 c : ℕ) (l : List Component) → 0 < length l → tall l ≤ 1024000 → widest l ≤ c → leastHeight kind g0 (reverseAux l []) c ≡ flatHeight g0 (reverseAux l [])
-    → Reached kind m g0 c (reverseAux l []) (placesOf m c l [])
+flat-reached : (kind : Kind) (m g0 c : ℕ) (l : List Component) → 0 < length l → tall l ≤ 1024000 → widest l ≤ c
+    → Reached kind m g0 c (flatHeight g0 (reverseAux l [])) (length l) (reverseAux l []) (placesOf m c l [])
 unfolding placedOf
-flat-reached kind m g0 c l n h w e =
+flat-reached kind m g0 c l n h w =
     let q = reached c l [] in
     let s = place c 0 0 l [] in
     record {
       whole = whole-places m c l [];
-      built = rw (placed-sides m 0 0 (rows c 0 0 l []) l (s .on-left) [] (onRight m (s .on-right)) (q .left-stacked)) (flat-starts kind m g0 c l (s .on-left) n (rw (rows-flat c l) at (q .left-stacked)) h w e);
+      built = rw (placed-sides m 0 0 (rows c 0 0 l []) l (s .on-left) [] (onRight m (s .on-right)) (q .left-stacked)) (flat-starts kind m g0 c l (s .on-left) n (rw (rows-flat c l) at (q .left-stacked)) h w);
     }
 
 fold-reached : (m g0 c : ℕ) (l r : List Component) → 0 < length l → 0 < length r → tall l + tall r ≤ 1024000 → widest l ≤ c → widest r ≤ c
-    → leastHeight Nested g0 (reverseAux l r) c ≡ rows c 0 0 l r + max g0 (gapAfter (reverseAux l r)) + gapAfter (reverseAux l []) → Reached Nested m g0 c (reverseAux l r) (placesOf m c l r)
-fold-reached m g0 c l r n k h w v e =
+    → Reached Nested m g0 c (sidesHeight g0 c l r) (length l) (reverseAux l r) (placesOf m c l r)
+fold-reached m g0 c l r n k h w v =
     let q = reached c l r in
     let s = place c 0 0 l r in
     record {
       whole = whole-places m c l r;
       built =
           rw (placed-sides m 0 0 (rows c 0 0 l r) l (s .on-left) r (onRight m (s .on-right)) (q .left-stacked))
-          (fold-starts m g0 c l r (s .on-left) (s .on-right) n k (q .left-stacked) (q .right-stacked) (q .clear) (omega (arith, rows-most c l r, h)) w v e);
+          (fold-starts m g0 c l r (s .on-left) (s .on-right) n k (q .left-stacked) (q .right-stacked) (q .clear) (omega (arith, rows-most c l r, h)) w v);
     }
 
 tall-most : (cs : List Component) → AllSized cs → tall cs ≤ 4000 * length cs
@@ -86,7 +88,7 @@ unfolding tall
 tall-most [] s = omega arith
 tall-most (x ∷ cs) s = omega (arith, s .0 .height-most, tall-most cs (s .1))
 
--- The sides of a fold point.
+-- The sides of a way.
 sides-tall : (p : ℕ) (cs : List Component) → tall (leftSide p cs) + tall (rightSide p cs) ≡ tall cs
 sides-tall p cs = sym (tall-sides (leftSide p cs) (rightSide p cs)) ∙ ap tall (both-sides p cs)
 
@@ -99,36 +101,39 @@ left-length p cs h = omega (arith, length-reverseAux (take p cs) [], length-take
 left-back : (p : ℕ) (cs : List Component) → reverseAux (leftSide p cs) [] ≡ take p cs
 left-back p cs = twice (take p cs) [] [] ∙ append-nil (take p cs)
 
-module _ (kind : Kind) (m g0 : ℕ) (cs : List Component) (c p : ℕ) (some : 0 < length cs) (few : length cs ≤ 256) (sized : AllSized cs) (wide : widest cs ≤ c) where
+-- A way in which the group may stand.
+module _ (kind : Kind) (m g0 : ℕ) (cs : List Component) (c p : ℕ) (few : length cs ≤ 256) (sized : AllSized cs) (wide : widest cs ≤ c) (stands : Stands kind (length cs) p) where
+  left-long : length (leftSide p cs) ≡ p
+  left-long = left-length p cs (stands .within)
+
+  low-sides : tall (leftSide p cs) + tall (rightSide p cs) ≤ 1024000
+  low-sides = omega (arith, sides-tall p cs, tall-most cs sized)
+
   -- from the two sides to the group
-  whole-group : Reached kind m g0 c (reverseAux (leftSide p cs) (rightSide p cs)) (placesOf m c (leftSide p cs) (rightSide p cs)) → Reached kind m g0 c cs (groupPlaces c cs m p)
+  whole-group : (top : ℕ) → wayHeight g0 cs c p ≡ top → Reached kind m g0 c top (length (leftSide p cs)) (reverseAux (leftSide p cs) (rightSide p cs)) (placesOf m c (leftSide p cs) (rightSide p cs))
+      → Reached kind m g0 c (wayHeight g0 cs c p) p cs (groupPlaces c cs m p)
   unfolding groupPlaces
-  whole-group q = subst (λ (k : List Component). Reached kind m g0 c k (placesOf m c (leftSide p cs) (rightSide p cs))) (both-sides p cs) q
+  whole-group top e q = rw e (rw (both-sides p cs, left-long) at q)
 
-  low-left : tall (leftSide p cs) + tall (rightSide p cs) ≤ 1024000
-  low-left = omega (arith, sides-tall p cs, tall-most cs sized)
-
-  flat-point : p ≡ length cs → leastHeight kind g0 cs c ≡ flatHeight g0 cs → Reached kind m g0 c cs (groupPlaces c cs m p)
-  flat-point e h =
+  flat-way : p ≡ length cs → Reached kind m g0 c (wayHeight g0 cs c p) p cs (groupPlaces c cs m p)
+  flat-way e =
       let none-right : rightSide p cs ≡ [] = ap (λ (k : ℕ). drop k cs) e ∙ drop-length cs in
       let all-left : reverseAux (leftSide p cs) [] ≡ cs = ap (reverseAux (leftSide p cs)) (sym none-right) ∙ both-sides p cs in
-      whole-group (subst (λ (k : List Component). Reached kind m g0 c (reverseAux (leftSide p cs) k) (placesOf m c (leftSide p cs) k)) (sym none-right)
-      (flat-reached kind m g0 c (leftSide p cs) (omega (arith, left-length p cs (omega arith))) (omega (arith, low-left)) (omega (arith, sides-widest p cs))
-      (subst (λ (k : List Component). leastHeight kind g0 k c ≡ flatHeight g0 k) (sym all-left) h)))
+      whole-group (flatHeight g0 (reverseAux (leftSide p cs) [])) (way-flat g0 cs c p e ∙ ap (flatHeight g0) (sym all-left))
+      (rw none-right (flat-reached kind m g0 c (leftSide p cs) (omega (arith, left-long, stands .some)) (omega (arith, low-sides)) (omega (arith, sides-widest p cs))))
 
-fold-at : (m g0 : ℕ) (cs : List Component) (c p : ℕ) → length cs ≤ 256 → AllSized cs → widest cs ≤ c → 0 < p → p < length cs → leastHeight Nested g0 cs c ≡ foldHeight g0 cs c p
-    → Reached Nested m g0 c cs (groupPlaces c cs m p)
-fold-at m g0 cs c p few sized wide n k h =
-    whole-group Nested m g0 cs c p (omega arith) few sized wide
-    (fold-reached m g0 c (leftSide p cs) (rightSide p cs) (omega (arith, left-length p cs (omega arith))) (omega (arith, length-drop p cs)) (low-left Nested m g0 cs c p (omega arith) few sized wide)
-    (omega (arith, sides-widest p cs)) (omega (arith, sides-widest p cs))
-    (rw (both-sides p cs, left-back p cs) h))
+  fold-way : p < length cs → Reached kind m g0 c (wayHeight g0 cs c p) p cs (groupPlaces c cs m p)
+  fold-way h =
+      whole-group (sidesHeight g0 c (leftSide p cs) (rightSide p cs)) (way-fold g0 cs c p h ∙ rw (both-sides p cs, left-back p cs))
+      (rw (stands .folded h) (fold-reached m g0 c (leftSide p cs) (rightSide p cs) (omega (arith, left-long, stands .some)) (omega (arith, length-drop p cs)) low-sides
+      (omega (arith, sides-widest p cs)) (omega (arith, sides-widest p cs))))
 
-pub point-reached : (kind : Kind) (m g0 : ℕ) (cs : List Component) (c p : ℕ) → 0 < length cs → length cs ≤ 256 → AllSized cs → widest cs ≤ c → FoldPoint kind g0 cs c p
-    → Reached kind m g0 c cs (groupPlaces c cs m p)
-point-reached kind m g0 cs c p some few sized wide (nowhere e h) = flat-point kind m g0 cs c p some few sized wide e h
-point-reached kind m g0 cs c p some few sized wide (behind e n k h) =
-    subst (λ (z : Kind). Reached z m g0 c cs (groupPlaces c cs m p)) (sym e) (fold-at m g0 cs c p few sized wide n k (subst (λ (z : Kind). leastHeight z g0 cs c ≡ foldHeight g0 cs c p) e h))
+  pub way-reached : Reached kind m g0 c (wayHeight g0 cs c p) p cs (groupPlaces c cs m p)
+  way-reached = go (order (length cs) p)
+    where
+      go : (length cs ≤ p) ⊎ (p < length cs) → Reached kind m g0 c (wayHeight g0 cs c p) p cs (groupPlaces c cs m p)
+      go (inl h) = flat-way (omega (arith, stands .within))
+      go (inr h) = fold-way h
 
 -- A folding of one group of components.
 pub record GroupFolds (kind : Kind) (m g0 : ℕ) (cs : List Component) (ps : List Placement) (w h : ℕ) : Type 0 where
@@ -150,15 +155,15 @@ fronted-measured kind m g0 g f s =
     subst (Measured kind g0) (sym (f .order))
     (measured kind g0 (f .first) (f .mates) (f .on-left) (f .alone) (f .run) (subst (λ (k : List Placed). AllSized (componentsOf k)) (f .order) s))
 
-exactly : (kind : Kind) (m g0 : ℕ) (cs : List Component) (limit c : ℕ) (ps : List Placement) → AllSized cs → leastWidth kind g0 cs limit ≡ c → leastHeight kind g0 cs c ≤ limit → Reached kind m g0 c cs ps
-    → GroupFolds kind m g0 cs ps c (leastHeight kind g0 cs c)
-exactly kind m g0 cs limit c ps s e h q =
+exactly : (kind : Kind) (m g0 : ℕ) (cs : List Component) (limit c p : ℕ) (ps : List Placement) → AllSized cs → leastWidth kind g0 cs limit ≡ c → leastHeight kind g0 cs c ≤ limit
+    → Reached kind m g0 c (leastHeight kind g0 cs c) p cs ps → GroupFolds kind m g0 cs ps c (leastHeight kind g0 cs c)
+exactly kind m g0 cs limit c p ps s e h q =
     let g = placedOf cs ps in
     let b = q .built in
     let d = fronted-measured kind m g0 g (b .group) (subst AllSized (sym (b .holds)) s) in
     let narrow : c ≤ groupWidth g = subst (λ (k : ℕ). k ≤ groupWidth g) (ap (λ (k : List Component). leastWidth kind g0 k limit) (b .holds) ∙ e) (least-width kind g0 g limit d (omega (arith, b .low, h))) in
     let w : groupWidth g ≡ c = le-antisymm (b .narrow) narrow in
-    let high : leastHeight kind g0 cs c ≤ groupHeight g0 g = rw (w, b .holds) at (d .high) in
+    let high : leastHeight kind g0 cs c ≤ groupHeight g0 g = rw (w, b .holds) at (measured-least kind g0 g d) in
     record { whole = q .whole; group = b .group; width = w; height = le-antisymm (b .low) high }
 
 -- At the least width for a limit, the placements of a fold point have that width and the least height.
@@ -166,5 +171,6 @@ pub least-reached : (kind : Kind) (g0 : ℕ) (cs : List Component) (limit : ℕ)
     → (m p : ℕ) → FoldPoint kind g0 cs (leastWidth kind g0 cs limit) p
     → GroupFolds kind m g0 cs (groupPlaces (leastWidth kind g0 cs limit) cs m p) (leastWidth kind g0 cs limit) (leastHeight kind g0 cs (leastWidth kind g0 cs limit))
 least-reached kind g0 cs limit some few s w m p f =
-    exactly kind m g0 cs limit (leastWidth kind g0 cs limit) (groupPlaces (leastWidth kind g0 cs limit) cs m p) s refl (least-keeps kind g0 cs limit w)
-    (point-reached kind m g0 cs (leastWidth kind g0 cs limit) p some few s (least-wide kind g0 cs limit w) f)
+    let c = leastWidth kind g0 cs limit in
+    let r = way-reached kind m g0 cs c p few s (least-wide kind g0 cs limit w) (point-stands kind g0 cs c p f) in
+    exactly kind m g0 cs limit c p (groupPlaces c cs m p) s refl (least-keeps kind g0 cs limit w) (rw (f .least) r)

@@ -1,17 +1,20 @@
 -- The least height falls as the cap rises; bounds on it; and a fold point that reaches it.
-use Prim.Native.Nat.{ℕ, zero, suc, _+_, _-_, _*_, _≤_, _<_, min}
-use mathlib.Core.Path.{_≡_, refl, sym, ap, _∙_}
+use Prim.Native.Nat.{ℕ, _+_, _*_, _≤_, _<_}
+use mathlib.Core.Path.{_≡_, refl, sym, ap, _∙_, subst}
 use mathlib.Core.Logic.{_⊎_, inl, inr}
 use mathlib.Core.List.{List, [], _∷_}
+use mathlib.Core.Bool.{Bool, true, false, cond}
 use native.Mathlib.Omega.{arith}
 use lib.ListN.{length}
+use lib.Dec.{eqb}
 use Rattle.terms.specs.declared.Component.{Component}
 use Rattle.terms.specs.declared.Kind.{Kind}
 use Rattle.terms.specs.declared.Kind.the-variants.{Apart, Nested}
 use Rattle.group.specs.Rows.{tall, rows, packed, place}
-use Rattle.group.specs.Group.{leftSide, rightSide, flatHeight, foldHeight, lowest, leastHeight, FoldPoint, nowhere, behind}
+use Rattle.group.specs.Group.{leftSide, rightSide, flatHeight, foldHeight, mayStand, wayHeight, ways, leastHeight, FoldPoint}
 use Rattle.group.proofs.Chains.{Stacked, ClearOf, AllClear, order, stacked-tall, stacked-wider, packed-stacked, nothing-lower, reached}
 use Rattle.group.proofs.Sides.{both-sides, tall-sides}
+use Rattle.group.proofs.Ways.{lowest-taken, lowest-falls, ways-in, in-ways, Stands, some-way, way-flat, point-stands}
 
 -- What is clear under a cap is clear under a greater one.
 clear-of : (c d : ℕ) (x : Component) (s : ℕ) (r : List Component) (ts : List ℕ) → c ≤ d → ClearOf c x s r ts → ClearOf d x s r ts
@@ -30,16 +33,17 @@ rows-falls c d l r h =
     let s = place c 0 0 l r in
     nothing-lower d (rows c 0 0 l r) l r (s .on-left) (s .on-right) (q .left-stacked) (q .right-stacked) (all-clear c d l (s .on-left) r (s .on-right) h (q .clear))
 
-lowest-falls : (a : ℕ) (f g : ℕ → ℕ) (k : ℕ) → ((p : ℕ) → f p ≤ g p) → lowest a f k ≤ lowest a g k
-unfolding lowest
-lowest-falls a f g zero h = omega arith
-lowest-falls a f g (suc k) h = omega (arith, lowest-falls a f g k h, h (suc k))
+-- So does the height of each way, and with it the least.
+way-falls : (g0 : ℕ) (cs : List Component) (c d : ℕ) → c ≤ d → (p : ℕ) → wayHeight g0 cs d p ≤ wayHeight g0 cs c p
+way-falls g0 cs c d h p = go (eqb p (length cs))
+  where
+    go : (flat : Bool) → cond flat (flatHeight g0 cs) (foldHeight g0 cs d p) ≤ cond flat (flatHeight g0 cs) (foldHeight g0 cs c p)
+    go true = omega arith
+    go false = omega (arith, rows-falls c d (leftSide p cs) (rightSide p cs) h)
 
 pub falls : (kind : Kind) (g0 : ℕ) (cs : List Component) (c d : ℕ) → c ≤ d → leastHeight kind g0 cs d ≤ leastHeight kind g0 cs c
 unfolding leastHeight
-falls Apart g0 cs c d h = omega arith
-falls Nested g0 cs c d h =
-    lowest-falls (flatHeight g0 cs) (foldHeight g0 cs d) (foldHeight g0 cs c) (length cs - 1) (λ p. omega (arith, rows-falls c d (leftSide p cs) (rightSide p cs) h))
+falls kind g0 cs c d h = lowest-falls (wayHeight g0 cs d) (wayHeight g0 cs c) (ways (mayStand kind cs) (length cs)) (way-falls g0 cs c d h)
 
 -- Rows are at least those of each side, and at most those of both.
 pub rows-left-side : (c : ℕ) (l r : List Component) → tall l ≤ rows c 0 0 l r
@@ -73,33 +77,43 @@ fold-tall c p cs =
     let e : tall cs ≡ tall (leftSide p cs) + tall (rightSide p cs) = ap tall (sym (both-sides p cs)) ∙ tall-sides (leftSide p cs) (rightSide p cs) in
     omega (arith, e, rows-left-side c (leftSide p cs) (rightSide p cs), rows-right-side c (leftSide p cs) (rightSide p cs))
 
-lowest-twice : (b a : ℕ) (f : ℕ → ℕ) (k : ℕ) → b ≤ 2 * a → ((p : ℕ) → b ≤ 2 * f p) → b ≤ 2 * lowest a f k
-unfolding lowest
-lowest-twice b a f zero h g = h
-lowest-twice b a f (suc k) h g = omega (arith, lowest-twice b a f k h g, g (suc k))
-
-pub two-sides : (g0 : ℕ) (cs : List Component) (c : ℕ) → tall cs ≤ 2 * leastHeight Nested g0 cs c
-unfolding leastHeight
-two-sides g0 cs c = lowest-twice (tall cs) (flatHeight g0 cs) (foldHeight g0 cs c) (length cs - 1) (omega arith) (λ p. omega (arith, fold-tall c p cs))
+way-tall : (g0 : ℕ) (cs : List Component) (c p : ℕ) → tall cs ≤ 2 * wayHeight g0 cs c p
+way-tall g0 cs c p = go (eqb p (length cs))
+  where
+    go : (flat : Bool) → tall cs ≤ 2 * cond flat (flatHeight g0 cs) (foldHeight g0 cs c p)
+    go true = omega arith
+    go false = omega (arith, fold-tall c p cs)
 
 -- Where the least is taken.
-lowest-taken : (a : ℕ) (f : ℕ → ℕ) (k : ℕ) → (lowest a f k ≡ a) ⊎ ((p : ℕ) × (0 < p) × (p ≤ k) × (lowest a f k ≡ f p))
-unfolding lowest
-lowest-taken a f zero = inl refl
-lowest-taken a f (suc k) = go (order (lowest a f k) (f (suc k))) (lowest-taken a f k)
-  where
-    go : (lowest a f k ≤ f (suc k)) ⊎ (f (suc k) < lowest a f k) → (lowest a f k ≡ a) ⊎ ((p : ℕ) × (0 < p) × (p ≤ k) × (lowest a f k ≡ f p))
-        → (min (lowest a f k) (f (suc k)) ≡ a) ⊎ ((p : ℕ) × (0 < p) × (p ≤ suc k) × (min (lowest a f k) (f (suc k)) ≡ f p))
-    go (inr h) i = inr (suc k, omega arith, omega arith, omega arith)
-    go (inl h) (inl e) = inl (omega arith)
-    go (inl h) (inr (p, g, l, e)) = inr (p, g, omega arith, omega arith)
-
 pub fold-point : (kind : Kind) (g0 : ℕ) (cs : List Component) (c : ℕ) → 0 < length cs → (p : ℕ) × FoldPoint kind g0 cs c p
 unfolding leastHeight
-fold-point Apart g0 cs c some = (length cs, nowhere refl refl)
-fold-point Nested g0 cs c some = go (lowest-taken (flatHeight g0 cs) (foldHeight g0 cs c) (length cs - 1))
+fold-point kind g0 cs c some =
+    let w = some-way kind cs some in
+    let t = lowest-taken (wayHeight g0 cs c) (ways (mayStand kind cs) (length cs)) (w .0) (ways-in (mayStand kind cs) (length cs) (w .0) (w .1) (w .2) (w .3)) in
+    let i = in-ways (mayStand kind cs) (length cs) (t .0) (t .1) in
+    (t .0, record { some = i .0; within = i .1; allowed = i .2; least = t .2 })
+
+pub two-sides : (g0 : ℕ) (cs : List Component) (c : ℕ) → tall cs ≤ 2 * leastHeight Nested g0 cs c
+unfolding tall
+two-sides g0 [] c = omega arith
+two-sides g0 (x ∷ cs) c = let f = fold-point Nested g0 (x ∷ cs) c (omega arith) in omega (arith, f .1 .least, way-tall g0 (x ∷ cs) c (f .0))
+
+-- An apart group has no fold, so the cap does not matter.
+apart-whole : (n p : ℕ) → Stands Apart n p → p ≡ n
+apart-whole n p s = go (order n p)
   where
-    go : (lowest (flatHeight g0 cs) (foldHeight g0 cs c) (length cs - 1) ≡ flatHeight g0 cs) ⊎ ((p : ℕ) × (0 < p) × (p ≤ length cs - 1) × (lowest (flatHeight g0 cs) (foldHeight g0 cs c) (length cs - 1) ≡ foldHeight g0 cs c p))
-        → (p : ℕ) × FoldPoint Nested g0 cs c p
-    go (inl e) = (length cs, nowhere refl e)
-    go (inr (p, g, l, e)) = (p, behind refl g (omega arith) e)
+    go : (n ≤ p) ⊎ (p < n) → p ≡ n
+    go (inl h) = omega (arith, s .within)
+    go (inr h) = let e : Apart ≡ Nested = s .folded h in cc
+
+module _ (g0 : ℕ) (cs : List Component) (c : ℕ) where
+  pub apart-point : 0 < length cs → FoldPoint Apart g0 cs c (length cs)
+  apart-point some = let f = fold-point Apart g0 cs c some in subst (FoldPoint Apart g0 cs c) (apart-whole (length cs) (f .0) (point-stands Apart g0 cs c (f .0) (f .1))) (f .1)
+
+  pub apart-height : 0 < length cs → leastHeight Apart g0 cs c ≡ flatHeight g0 cs
+  apart-height some = apart-point some .least ∙ way-flat g0 cs c (length cs) refl
+
+pub one-side : (g0 : ℕ) (cs : List Component) (c : ℕ) → tall cs ≤ leastHeight Apart g0 cs c
+unfolding tall
+one-side g0 [] c = omega arith
+one-side g0 (x ∷ cs) c = omega (arith, apart-height g0 (x ∷ cs) c (omega arith))

@@ -15,13 +15,13 @@ use Rattle.folding.specs.Outline.{groupWidth, groupHeight, lastGap}
 use Rattle.folding.proofs.Rules.{Alone}
 use Rattle.folding.proofs.Groups.{Run}
 use Rattle.group.specs.Group.{gapAfter, leastHeight, leastWidth}
-use Rattle.group.proofs.Lower.{componentsOf, last-gap, measured}
+use Rattle.group.proofs.Lower.{componentsOf, last-gap, measured, measured-least}
 use Rattle.group.proofs.Lower as below
 
 -- A legal group: its first component x and the others behind it.
 module _ (kind : Kind) (g0 : ℕ) (x : Placed) (a : List Placed) (l : left x ≡ true) (e : Alone kind x) (r : Run kind x a) (s : AllSized (componentsOf (x ∷ a))) where
   pub lower : leastHeight kind g0 (componentsOf (x ∷ a)) (groupWidth (x ∷ a)) ≤ groupHeight g0 (x ∷ a)
-  lower = measured kind g0 x a l e r s .high
+  lower = measured-least kind g0 (x ∷ a) (measured kind g0 x a l e r s)
 
   -- Within a limit it is at least as wide as the least width.
   pub least-width : (limit : ℕ) → groupHeight g0 (x ∷ a) ≤ limit → leastWidth kind g0 (componentsOf (x ∷ a)) limit ≤ groupWidth (x ∷ a)

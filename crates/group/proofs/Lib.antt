@@ -1,6 +1,7 @@
 pub mod Chains
 pub mod Sides
 pub mod First
+pub mod Ways
 pub mod Lower
 pub mod Falls
 pub mod Reach

@@ -1,10 +1,8 @@
 -- No legal group is lower than the least height at its own width, and none is narrower than the least width for its height.
-use Prim.Native.Nat.{ℕ, zero, suc, _+_, _-_, _*_, _≤_, _<_, min, max}
+use Prim.Native.Nat.{ℕ, suc, _+_, _*_, _≤_, _<_, max}
 use mathlib.Core.Path.{_≡_, refl, sym, ap, _∙_}
-use mathlib.Core.Logic.{_⊎_, inl, inr}
 use mathlib.Core.List.{List, [], _∷_, reverseAux, map}
-use mathlib.Core.Bool.{true, false, true≢false}
-use native.Mathlib.Nat.{eq-or-lt-of-le, le-of-suc-le-suc}
+use mathlib.Core.Bool.{true, false, true≢false, cond}
 use native.Mathlib.Omega.{arith}
 use lib.ListN.{length, length-reverseAux}
 use Rattle.terms.specs.declared.Component.{Component}
@@ -20,9 +18,10 @@ use Rattle.folding.proofs.Rows.{Tall}
 use Rattle.folding.proofs.Sides.{Chain, Members, sides, flat-height, fold-height}
 use Rattle.folding.proofs.Pairs.{Narrow, FitAll, AllFit, cap-narrow-left, cap-narrow-right, cap-fits, cap-of}
 use Rattle.group.specs.Rows.{gap, tall, rows}
-use Rattle.group.specs.Group.{gapAfter, widest, flatHeight, foldHeight, lowest, leastHeight, leastWidth}
-use Rattle.group.proofs.Chains.{Stacked, ClearOf, AllClear, stacked-tall, nothing-lower}
+use Rattle.group.specs.Group.{gapAfter, widest, flatHeight, foldHeight, wayHeight, leastHeight, leastWidth}
+use Rattle.group.proofs.Chains.{Stacked, ClearOf, AllClear, nothing-lower}
 use Rattle.group.proofs.First.{first-le}
+use Rattle.group.proofs.Ways.{Stands, stands-allowed, way-flat, way-fold, least-at}
 use Rattle.group.proofs.Sides.{take-left, left-side, right-side, tall-sides, gap-sides, gap-front, widest-sides}
 
 abbrev pub componentsOf : List Placed → List Component
@@ -31,29 +30,10 @@ componentsOf l = map (λ x. x .component) l
 abbrev pub startsOf : List Placed → List ℕ
 startsOf l = map (λ x. startOf x) l
 
--- The least of several numbers.
-pub lowest-start : (a : ℕ) (f : ℕ → ℕ) (k : ℕ) → lowest a f k ≤ a
-unfolding lowest
-lowest-start a f zero = omega arith
-lowest-start a f (suc k) = omega (arith, lowest-start a f k)
-
-pub lowest-at : (a : ℕ) (f : ℕ → ℕ) (k p : ℕ) → 0 < p → p ≤ k → lowest a f k ≤ f p
-unfolding lowest
-lowest-at a f zero p g h = absurd (omega arith)
-lowest-at a f (suc k) p g h = go (eq-or-lt-of-le h) (lowest-at a f k p g)
-  where
-    go : (p ≡ suc k) ⊎ (p < suc k) → (p ≤ k → lowest a f k ≤ f p) → min (lowest a f k) (f (suc k)) ≤ f p
-    go (inl e) i = rw e (omega arith)
-    go (inr l) i = omega (arith, i (le-of-suc-le-suc l))
-
-pub least-flat : (kind : Kind) (g0 : ℕ) (cs : List Component) (cap : ℕ) → leastHeight kind g0 cs cap ≤ flatHeight g0 cs
-unfolding leastHeight
-least-flat Apart g0 cs cap = omega arith
-least-flat Nested g0 cs cap = lowest-start (flatHeight g0 cs) (foldHeight g0 cs cap) (length cs - 1)
-
-pub least-fold : (g0 : ℕ) (cs : List Component) (cap p : ℕ) → 0 < p → p < length cs → leastHeight Nested g0 cs cap ≤ foldHeight g0 cs cap p
-unfolding leastHeight
-least-fold g0 cs cap p g h = lowest-at (flatHeight g0 cs) (foldHeight g0 cs cap) (length cs - 1) p g (omega arith)
+-- How many components of a group are on the left: its fold is behind these.
+unfoldable pub leftsIn : List Placed → ℕ
+leftsIn [] = 0
+leftsIn (x ∷ l) = cond (left x) (suc (leftsIn l)) 0
 
 -- Placed chains are stacked, and what fits is clear.
 chain-stacked : (lo hi : ℕ) (l : List Placed) → Chain lo l → lo ≤ hi → topOf l ≤ hi → Stacked lo hi (componentsOf l) (startsOf l)
@@ -105,6 +85,63 @@ pub sized-sides : (l r : List Component) → AllSized (reverseAux l r) → AllSi
 sized-sides [] r s = (tt, s)
 sized-sides (x ∷ l) r s = let k = sized-sides l (x ∷ r) s in ((k .1 .0, k .0), k .1 .1)
 
+-- What a legal group comes to: its width is between the widest and twice the widest, and it is no lower than its way of
+-- standing asks for.
+pub record Measured (kind : Kind) (g0 : ℕ) (g : List Placed) : Type 0 where
+  pub wide : widest (componentsOf g) ≤ groupWidth g
+  pub slim : groupWidth g ≤ 2 * widest (componentsOf g)
+  pub stands : Stands kind (length (componentsOf g)) (leftsIn g)
+  pub high : wayHeight g0 (componentsOf g) (groupWidth g) (leftsIn g) ≤ groupHeight g0 g
+
+-- The components on the left of two sides, and those on the right.
+lefts-front : (kind : Kind) (m : ℕ) (l r : List Placed) → Members kind m true l → leftsIn (reverseAux l r) ≡ length (componentsOf l) + leftsIn r
+unfolding leftsIn
+lefts-front kind m [] r e = omega arith
+lefts-front kind m (x ∷ l) r e = let h : leftsIn (x ∷ r) ≡ suc (leftsIn r) = rw (e .1) in omega (arith, lefts-front kind m l (x ∷ r) (e .3), h)
+
+no-lefts : (kind : Kind) (m : ℕ) (r : List Placed) → Members kind m false r → leftsIn r ≡ 0
+unfolding leftsIn
+no-lefts kind m [] e = refl
+no-lefts kind m (y ∷ r) e = rw (e .1)
+
+pub lefts-sides : (kind : Kind) (m : ℕ) (l r : List Placed) → Members kind m true l → Members kind m false r → leftsIn (reverseAux l r) ≡ length (componentsOf l)
+lefts-sides kind m l r e f = omega (arith, lefts-front kind m l r e, no-lefts kind m r f)
+
+right-nested : (kind : Kind) (m : ℕ) (r : List Placed) → Members kind m false r → 0 < length (componentsOf r) → kind ≡ Nested
+right-nested Apart m [] e h = absurd (omega arith)
+right-nested Apart m (y ∷ r) e h = absurd (true≢false (sym (e .2 .side-stands) ∙ e .1))
+right-nested Nested m r e h = refl
+
+-- The heights of a group by its sides, without a fold and with one.
+flat-sides : (g0 : ℕ) (c : Component) (cs : List Component) → flatHeight g0 (reverseAux (c ∷ cs) []) ≡ tall (c ∷ cs) + g0 + gap c
+unfolding tall
+flat-sides g0 c cs = omega (arith, gap-front c cs, tall-sides (c ∷ cs) [])
+
+fold-sides : (g0 : ℕ) (c : Component) (l : List Component) (d : Component) (r : List Component) (at : ℕ)
+    → foldHeight g0 (reverseAux (c ∷ l) (d ∷ r)) at (length (c ∷ l)) ≡ rows at 0 0 (c ∷ l) (d ∷ r) + max g0 (gapAfter (d ∷ r)) + gap c
+fold-sides g0 c l d r at = rw (left-side (c ∷ l) (d ∷ r), right-side (c ∷ l) (d ∷ r), take-left (c ∷ l) (d ∷ r), gap-front c l, gap-sides (c ∷ l) d r)
+
+high-sides : (kind : Kind) (m g0 : ℕ) (x : Placed) (l r : List Placed) (at : ℕ) → Members kind m true (x ∷ l) → Members kind m false r
+    → rows at 0 0 (componentsOf (x ∷ l)) (componentsOf r) ≤ max (topOf (x ∷ l)) (topOf r)
+    → wayHeight g0 (componentsOf (reverseAux (x ∷ l) r)) at (length (componentsOf (x ∷ l))) ≤ groupHeight g0 (reverseAux (x ∷ l) r)
+unfolding rows topOf
+high-sides kind m g0 x l [] at e f h =
+    let cs = componentsOf (x ∷ l) in
+    rw (components-sides (x ∷ l) [])
+    (omega (arith, h, flat-height kind m g0 x l e, flat-sides g0 (x .component) (componentsOf l), way-flat g0 (reverseAux cs []) at (length cs) (omega (arith, length-reverseAux cs []))))
+high-sides kind m g0 x l (y ∷ r) at e f h =
+    let cs = componentsOf (x ∷ l) in
+    let ds = componentsOf (y ∷ r) in
+    rw (components-sides (x ∷ l) (y ∷ r))
+    (omega (
+      arith,
+      h,
+      last-gap (y ∷ r),
+      fold-height kind m g0 x l y r e f,
+      fold-sides g0 (x .component) (componentsOf l) (y .component) (componentsOf r) at,
+      way-fold g0 (reverseAux cs ds) at (length cs) (omega (arith, length-reverseAux cs ds)),
+    ))
+
 -- The two sides of a legal group.
 module _ (kind : Kind) (m g0 : ℕ) (x : Placed) (l r : List Placed) (cl : Chain 0 (x ∷ l)) (cr : Chain 0 r) (ml : Members kind m true (x ∷ l)) (mr : Members kind m false r)
     (sl : AllSized (componentsOf (x ∷ l))) (sr : AllSized (componentsOf r)) where
@@ -133,59 +170,21 @@ module _ (kind : Kind) (m g0 : ℕ) (x : Placed) (l r : List Placed) (cl : Chain
       cap-of (2 * w) 0 0 (x ∷ l) r cl cr (widest-narrow (2 * w) (x ∷ l) (omega arith)) (widest-narrow (2 * w) r (omega arith))
       (all-fit w (x ∷ l) r (widest-narrow w (x ∷ l) (omega arith)) (widest-narrow w r (omega arith)))
 
-components-flat : (l : List Placed) → componentsOf (reverseAux l []) ≡ reverseAux (componentsOf l) []
-components-flat l = components-sides l []
+  lefts-are : leftsIn group ≡ length (componentsOf (x ∷ l))
+  lefts-are = lefts-sides kind m (x ∷ l) r ml mr
 
-flat-least : (kind : Kind) (g0 : ℕ) (c : Component) (cs : List Component) (at : ℕ) → leastHeight kind g0 (reverseAux (c ∷ cs) []) at ≤ tall (c ∷ cs) + g0 + gap c
-unfolding tall
-flat-least kind g0 c cs at = omega (arith, least-flat kind g0 (reverseAux (c ∷ cs) []) at, gap-front c cs, tall-sides (c ∷ cs) [])
+  group-long : length (componentsOf group) ≡ length (componentsOf (x ∷ l)) + length (componentsOf r)
+  group-long = ap length (components-sides (x ∷ l) r) ∙ length-reverseAux (componentsOf (x ∷ l)) (componentsOf r)
 
-flat-lower : (kind : Kind) (m g0 : ℕ) (x : Placed) (l : List Placed) (at : ℕ) → Chain 0 (x ∷ l) → Members kind m true (x ∷ l)
-    → leastHeight kind g0 (componentsOf (reverseAux (x ∷ l) [])) at ≤ groupHeight g0 (reverseAux (x ∷ l) [])
-flat-lower kind m g0 x l at c e =
-    rw (flat-height kind m g0 x l e, components-flat (x ∷ l))
-    (omega (
-      arith,
-      flat-least kind g0 (x .component) (componentsOf l) at,
-      stacked-tall 0 (topOf (x ∷ l)) (componentsOf (x ∷ l)) (startsOf (x ∷ l)) (chain-stacked 0 (topOf (x ∷ l)) (x ∷ l) c (omega arith) (omega arith)),
-    ))
+  stands-sides : Stands kind (length (componentsOf group)) (leftsIn group)
+  stands-sides = record {
+    some = omega (arith, lefts-are);
+    within = omega (arith, lefts-are, group-long);
+    folded = λ h. right-nested kind m r mr (omega (arith, lefts-are, group-long));
+  }
 
--- With a fold behind the components of one side.
-fold-least : (g0 : ℕ) (c : Component) (l : List Component) (d : Component) (r : List Component) (at : ℕ)
-    → leastHeight Nested g0 (reverseAux (c ∷ l) (d ∷ r)) at ≤ rows at 0 0 (c ∷ l) (d ∷ r) + max g0 (gapAfter (d ∷ r)) + gap c
-fold-least g0 c l d r at =
-    rw (left-side (c ∷ l) (d ∷ r), right-side (c ∷ l) (d ∷ r), take-left (c ∷ l) (d ∷ r), gap-front c l, gap-sides (c ∷ l) d r)
-    at (least-fold g0 (reverseAux (c ∷ l) (d ∷ r)) at (length (c ∷ l)) (omega arith) (omega (arith, length-reverseAux (c ∷ l) (d ∷ r))))
-
-fold-lower : (m g0 : ℕ) (x : Placed) (l : List Placed) (y : Placed) (r : List Placed) (at : ℕ) → Members Nested m true (x ∷ l) → Members Nested m false (y ∷ r)
-    → rows at 0 0 (componentsOf (x ∷ l)) (componentsOf (y ∷ r)) ≤ max (topOf (x ∷ l)) (topOf (y ∷ r))
-    → leastHeight Nested g0 (componentsOf (reverseAux (x ∷ l) (y ∷ r))) at ≤ groupHeight g0 (reverseAux (x ∷ l) (y ∷ r))
-fold-lower m g0 x l y r at e f h =
-    rw (fold-height Nested m g0 x l y r e f, components-sides (x ∷ l) (y ∷ r))
-    (omega (arith, h, last-gap (y ∷ r), fold-least g0 (x .component) (componentsOf l) (y .component) (componentsOf r) at))
-
--- A legal group by its sides: its width is between the widest and twice the widest, and it is no lower than the least.
-pub record Measured (kind : Kind) (g0 : ℕ) (g : List Placed) : Type 0 where
-  pub wide : widest (componentsOf g) ≤ groupWidth g
-  pub slim : groupWidth g ≤ 2 * widest (componentsOf g)
-  pub high : leastHeight kind g0 (componentsOf g) (groupWidth g) ≤ groupHeight g0 g
-
-measured-sides : (kind : Kind) (m g0 : ℕ) (x : Placed) (l r : List Placed) → Chain 0 (x ∷ l) → Chain 0 r → Members kind m true (x ∷ l) → Members kind m false r
-    → AllSized (componentsOf (x ∷ l)) → AllSized (componentsOf r) → Measured kind g0 (reverseAux (x ∷ l) r)
-measured-sides kind m g0 x l [] cl cr ml mr sl sr = record {
-  wide = sides-widest kind m g0 x l [] cl cr ml mr sl sr;
-  slim = sides-bound kind m g0 x l [] cl cr ml mr sl sr;
-  high = flat-lower kind m g0 x l _ cl ml;
-}
-measured-sides kind m g0 x l (y ∷ r) cl cr ml mr sl sr = go kind ml mr
-  where
-    go : (k : Kind) → Members k m true (x ∷ l) → Members k m false (y ∷ r) → Measured k g0 (reverseAux (x ∷ l) (y ∷ r))
-    go Apart a b = absurd (true≢false (sym (b .2 .side-stands) ∙ b .1))
-    go Nested a b = record {
-      wide = sides-widest Nested m g0 x l (y ∷ r) cl cr a b sl sr;
-      slim = sides-bound Nested m g0 x l (y ∷ r) cl cr a b sl sr;
-      high = fold-lower m g0 x l y r _ a b (rows-low Nested m g0 x l (y ∷ r) cl cr a b sl sr);
-    }
+  measured-sides : Measured kind g0 group
+  measured-sides = record { wide = sides-widest; slim = sides-bound; stands = stands-sides; high = rw lefts-are (high-sides kind m g0 x l r width ml mr rows-low) }
 
 measured-order : (kind : Kind) (g0 m : ℕ) (g : List Placed) (x : Placed) (l r : List Placed) → g ≡ reverseAux (x ∷ l) r → Chain 0 (x ∷ l) → Chain 0 r → Members kind m true (x ∷ l)
     → Members kind m false r → AllSized (componentsOf g) → Measured kind g0 g
@@ -198,6 +197,12 @@ measured kind g0 x a l e r s =
     let d = sides kind [] x a l e r tt tt in
     measured-order kind g0 (groupOf x) (x ∷ a) (d .lowest) (d .lefts) (d .rights) (d .order) (d .left-chain) (d .right-chain) (d .left-members) (d .right-members) s
 
+-- It is no lower than the least height, since its way of standing is allowed.
+pub measured-least : (kind : Kind) (g0 : ℕ) (g : List Placed) → Measured kind g0 g → leastHeight kind g0 (componentsOf g) (groupWidth g) ≤ groupHeight g0 g
+measured-least kind g0 g d =
+    let s = d .stands in
+    omega (arith, d .high, least-at kind g0 (componentsOf g) (groupWidth g) (leftsIn g) (s .some) (s .within) (stands-allowed kind (componentsOf g) (leftsIn g) s))
+
 pub least-width : (kind : Kind) (g0 : ℕ) (g : List Placed) (limit : ℕ) → Measured kind g0 g → groupHeight g0 g ≤ limit → leastWidth kind g0 (componentsOf g) limit ≤ groupWidth g
 least-width kind g0 g limit d h =
-    first-le (leastHeight kind g0 (componentsOf g)) limit (widest (componentsOf g)) (suc (widest (componentsOf g))) (groupWidth g) (d .wide) (omega (arith, d .slim)) (omega (arith, d .high, h))
+    first-le (leastHeight kind g0 (componentsOf g)) limit (widest (componentsOf g)) (suc (widest (componentsOf g))) (groupWidth g) (d .wide) (omega (arith, d .slim)) (omega (arith, measured-least kind g0 g d, h))

@@ -1,12 +1,12 @@
--- The least height of one group whose width may be at most a cap, over all its fold points, and the least width for a
+-- The least height of one group whose width may be at most a cap, over all its ways of standing, and the least width for a
 -- height.
 -- Nothing here is part of a public promise: `proofs/Lower.antt` and `proofs/Reach.antt` show what it comes to.
-use Prim.Native.Nat.{ℕ, zero, suc, _+_, _-_, _<_, min, max}
+use Prim.Native.Nat.{ℕ, zero, suc, _+_, _≤_, _<_, min, max}
 use mathlib.Core.Path.{_≡_}
 use mathlib.Core.List.{List, [], _∷_, reverseAux, map}
-use mathlib.Core.Bool.{cond}
+use mathlib.Core.Bool.{Bool, true, cond}
 use lib.ListN.{length, take, drop}
-use lib.Dec.{leb}
+use lib.Dec.{leb, eqb}
 use Rattle.terms.specs.declared.Component.{Component}
 use Rattle.terms.specs.declared.Kind.{Kind}
 use Rattle.terms.specs.declared.Kind.the-variants.{Apart, Nested}
@@ -41,14 +41,29 @@ flatHeight g0 cs = tall cs + g0 + gapAfter cs
 abbrev pub foldHeight : ℕ → List Component → ℕ → ℕ → ℕ
 foldHeight g0 cs cap p = rows cap 0 0 (leftSide p cs) (rightSide p cs) + max g0 (gapAfter cs) + gapAfter (take p cs)
 
--- The least of a number and f 1, .., f k.
-unfoldable pub lowest : ℕ → (ℕ → ℕ) → ℕ → ℕ
-lowest a f zero = a
-lowest a f (suc k) = min (lowest a f k) (f (suc k))
+-- A group's way of standing is the number p of components on its left: its fold is behind them, and it has none where they
+-- are all of them. Which ways are allowed is one function of that number. "apart": without a fold; nested: any.
+abbrev pub mayStand : Kind → List Component → ℕ → Bool
+mayStand Apart cs p = eqb p (length cs)
+mayStand Nested cs p = true
+
+-- The height of the group that stands so.
+abbrev pub wayHeight : ℕ → List Component → ℕ → ℕ → ℕ
+wayHeight g0 cs cap p = cond (eqb p (length cs)) (flatHeight g0 cs) (foldHeight g0 cs cap p)
+
+-- The ways that are allowed, out of 1 to n.
+unfoldable pub ways : (ℕ → Bool) → ℕ → List ℕ
+ways may zero = []
+ways may (suc n) = cond (may (suc n)) (suc n ∷ ways may n) (ways may n)
+
+-- The least of f over a list of ways; over an empty one there is none.
+unfoldable pub lowest : (ℕ → ℕ) → List ℕ → ℕ
+lowest f [] = none
+lowest f (p ∷ []) = f p
+lowest f (p ∷ q ∷ l) = min (f p) (lowest f (q ∷ l))
 
 unfoldable pub leastHeight : Kind → ℕ → List Component → ℕ → ℕ
-leastHeight Apart g0 cs cap = flatHeight g0 cs
-leastHeight Nested g0 cs cap = lowest (flatHeight g0 cs) (foldHeight g0 cs cap) (length cs - 1)
+leastHeight kind g0 cs cap = lowest (wayHeight g0 cs cap) (ways (mayStand kind cs) (length cs))
 
 -- The first of n numbers from c on at which f is at most the limit.
 unfoldable pub firstFrom : (ℕ → ℕ) → ℕ → ℕ → ℕ → ℕ
@@ -59,12 +74,14 @@ firstFrom f limit c (suc n) = cond (leb (f c) limit) c (firstFrom f limit (suc c
 abbrev pub leastWidth : Kind → ℕ → List Component → ℕ → ℕ
 leastWidth kind g0 cs limit = firstFrom (leastHeight kind g0 cs) limit (widest cs) (suc (widest cs))
 
--- Where a fold makes the group as low as it can be: behind the first p components, or nowhere, which is behind all of them.
-pub data FoldPoint (kind : Kind) (g0 : ℕ) (cs : List Component) (cap p : ℕ) : Type 0 where
-  nowhere : p ≡ length cs → leastHeight kind g0 cs cap ≡ flatHeight g0 cs → FoldPoint kind g0 cs cap p
-  behind : kind ≡ Nested → 0 < p → p < length cs → leastHeight kind g0 cs cap ≡ foldHeight g0 cs cap p → FoldPoint kind g0 cs cap p
+-- A way that is allowed and in which the group is as low as it can be.
+pub record FoldPoint (kind : Kind) (g0 : ℕ) (cs : List Component) (cap p : ℕ) : Type 0 where
+  pub some : 0 < p
+  pub within : p ≤ length cs
+  pub allowed : mayStand kind cs p ≡ true
+  pub least : leastHeight kind g0 cs cap ≡ wayHeight g0 cs cap p
 
--- The placements of the group numbered m with that fold.
+-- The placements of the group numbered m that stands so.
 abbrev pub onLeft : ℕ → List ℕ → List Placement
 onLeft m ss = map (λ s. record { group = m; side = 0; start = s }) ss
 

@@ -1,31 +1,26 @@
 -- The pass over all fold points of a filled table finds the least height of the group.
-use Prim.Native.Nat.{ℕ, zero, suc, _+_, _-_, _≤_, _<_, min, max}
+use Prim.Native.Nat.{ℕ, _+_, _-_, _≤_, _<_, max}
 use mathlib.Core.Path.{_≡_, refl, sym, ap, _∙_}
+use mathlib.Core.Logic.{_⊎_, inl, inr}
 use mathlib.Core.List.{List, []}
+use native.Mathlib.Nat.{le-antisymm}
 use native.Mathlib.Omega.{arith}
 use lib.ListN.{length, getD}
+use Rattle.terms.specs.declared.Component.{Component}
 use Rattle.terms.specs.declared.Kind.the-variants.{Nested}
 use Rattle.terms.specs.Component.{componentIn, componentsIn}
 use Rattle.terms.proofs.Tabulate.{tabulate-length}
-use Rattle.group.specs.Group.{flatHeight, foldHeight, lowest, leastHeight, FoldPoint}
-use Rattle.group.specs.Group.FoldPoint.{nowhere, behind}
+use Rattle.group.specs.Group.{flatHeight, foldHeight, wayHeight, leastHeight, FoldPoint}
 use Rattle.group.specs.Table.{Filled}
+use Rattle.group.proofs.Chains.{order}
+use Rattle.group.proofs.Ways.{Stands, stands-allowed, way-flat, way-fold, least-at}
+use Rattle.group.proofs.Falls.{fold-point}
 use Rattle.group.proofs.Indices.{at-le}
 use Rattle.group_height.specs.Heights.{HeightAsks}
 use Rattle.group_height.specs.Inner.{flatBy, foldBy, PassAsks, Point, Pass}
 use Rattle.group_height.specs.Inner.Point.{flat, fold}
 use Rattle.group.proofs.Bare.{rows-bare}
 use Rattle.group.proofs.Gaps.{tall-entry, gap-behind, gap-behind-all}
-
-lowest-next : (a : ℕ) (f : ℕ → ℕ) (p : ℕ) → 0 < p → lowest a f (p + 1 - 1) ≡ min (lowest a f (p - 1)) (f p)
-unfolding lowest
-lowest-next a f zero h = absurd (omega arith)
-lowest-next a f (suc p) h = let z : suc p + 1 - 1 ≡ suc p = omega arith in let y : suc p - 1 ≡ p = omega arith in rw (z, y) refl
-
-lowest-same : (a b : ℕ) (f g : ℕ → ℕ) (k : ℕ) → a ≡ b → ((p : ℕ) → 0 < p → p ≤ k → f p ≡ g p) → lowest a f k ≡ lowest b g k
-unfolding lowest
-lowest-same a b f g zero e h = e
-lowest-same a b f g (suc k) e h = rw (lowest-same a b f g k e (λ p s l. h p s (omega arith)), h (suc k) (omega arith) (omega arith)) refl
 
 -- The fold points below p are done.
 pub record Passing (g0 : ℕ) (gs es : List ℕ) (v at p : ℕ) : Type 0 where
@@ -36,21 +31,27 @@ pub record Passing (g0 : ℕ) (gs es : List ℕ) (v at p : ℕ) : Type 0 where
 
 module _ {g0 : ℕ} {gs es : List ℕ} (r : PassAsks g0 gs es) where
   pub pass-start : (v : ℕ) → v ≡ flatBy g0 gs es → Passing g0 gs es v (length gs) 1
-  unfolding lowest
   pass-start v e = record {
     some = omega arith;
     within = r .some;
     low = omega (arith, r .small 0 (r .some), r .first-low, r .gaps-low (length gs - 1));
-    so-far = record { least = e; point = flat refl e };
+    so-far = record { flat-most = omega arith; fold-most = λ q s l. absurd (omega arith); point = flat refl e };
   }
 
   module _ {v at p : ℕ} (i : Passing g0 gs es v at p) (more : p < length gs) (t : ℕ) (e : t ≡ foldBy g0 gs es p) where
+    most-next : (v' : ℕ) → v' ≤ v → v' ≤ t → (q : ℕ) → 0 < q → q ≤ p + 1 - 1 → v' ≤ foldBy g0 gs es q
+    most-next v' h k q s l = go (order p q)
+      where
+        go : (p ≤ q) ⊎ (q < p) → v' ≤ foldBy g0 gs es q
+        go (inl o) = let z : q ≡ p = omega arith in rw z (omega arith)
+        go (inr o) = omega (arith, i .so-far .fold-most q s (omega arith))
+
     pub pass-lower : (v' at' : ℕ) → t < v → v' ≡ t → at' ≡ p → Passing g0 gs es v' at' (p + 1)
     pass-lower v' at' h x y = rw (x, y) record {
       some = omega arith;
       within = omega arith;
       low = omega (arith, i .low);
-      so-far = record { least = omega (arith, lowest-next (flatBy g0 gs es) (foldBy g0 gs es) p (i .some), i .so-far .least); point = fold (i .some) more e };
+      so-far = record { flat-most = omega (arith, i .so-far .flat-most); fold-most = most-next t (omega arith) (omega arith); point = fold (i .some) more e };
     }
 
     pub pass-on : (v' at' : ℕ) → v ≤ t → v' ≡ v → at' ≡ at → Passing g0 gs es v' at' (p + 1)
@@ -58,7 +59,7 @@ module _ {g0 : ℕ} {gs es : List ℕ} (r : PassAsks g0 gs es) where
       some = omega arith;
       within = omega arith;
       low = i .low;
-      so-far = record { least = omega (arith, lowest-next (flatBy g0 gs es) (foldBy g0 gs es) p (i .some), i .so-far .least); point = i .so-far .point };
+      so-far = record { flat-most = i .so-far .flat-most; fold-most = most-next v (omega arith) h; point = i .so-far .point };
     }
 
   pub pass-ends : {v at p : ℕ} → Passing g0 gs es v at p → length gs ≤ p → Pass g0 gs es (length gs - 1) v at
@@ -84,21 +85,40 @@ module _ {g0 : ℕ} {hs ws gs old es : List ℕ} {cap : ℕ} (r : HeightAsks g0 
       rw (rows-bare hs ws gs cap 0 0 p p, gap-behind-all hs ws gs (r .some), gap-behind hs ws gs p s (omega arith), r .gaps-long)
       (ap (λ (k : ℕ). k + max g0 (getD gs (length hs - 1) 0) + getD gs (p - 1) 0) (f .right p p (omega arith) (omega arith)))
 
-  count : length (componentsIn hs ws gs) ≡ length hs
-  count = tabulate-length (componentIn hs ws gs) (length hs)
+  long : length gs ≡ length (componentsIn hs ws gs)
+  long = r .gaps-long ∙ sym (tabulate-length (componentIn hs ws gs) (length hs))
 
-  pub is-least : (v at : ℕ) → Pass g0 gs es (length gs - 1) v at → v ≡ leastHeight Nested g0 (componentsIn hs ws gs) cap
-  unfolding leastHeight
-  is-least v at d =
-      let z : length gs - 1 ≡ length (componentsIn hs ws gs) - 1 = omega (arith, count, r .gaps-long) in
-      d .least
-      ∙ (lowest-same (flatBy g0 gs es) (flatHeight g0 (componentsIn hs ws gs)) (foldBy g0 gs es) (foldHeight g0 (componentsIn hs ws gs) cap) (length gs - 1) flat-is
-      (λ p s l. fold-is p s (omega (arith, r .some, r .gaps-long)))
-      ∙ ap (λ (k : ℕ). lowest (flatHeight g0 (componentsIn hs ws gs)) (foldHeight g0 (componentsIn hs ws gs) cap) k) z)
+  -- The height found is that of a way, and no way is lower.
+  module _ (v at : ℕ) (d : Pass g0 gs es (length gs - 1) v at) where
+    abbrev cs : List Component
+    cs = componentsIn hs ws gs
 
-  pub is-point : (v at : ℕ) → Pass g0 gs es (length gs - 1) v at → FoldPoint Nested g0 (componentsIn hs ws gs) cap at
-  is-point v at d = go (d .point)
-    where
-      go : Point g0 gs es v at → FoldPoint Nested g0 (componentsIn hs ws gs) cap at
-      go (flat e o) = nowhere (e ∙ r .gaps-long ∙ sym count) (sym (is-least v at d) ∙ o ∙ flat-is)
-      go (fold s l o) = behind refl s (omega (arith, count, r .gaps-long)) (sym (is-least v at d) ∙ o ∙ fold-is at s (omega (arith, r .gaps-long)))
+    stands : Stands Nested (length cs) at
+    stands = go (d .point)
+      where
+        go : Point g0 gs es v at → Stands Nested (length cs) at
+        go (flat e o) = record { some = omega (arith, r .some, r .gaps-long); within = omega (arith, long); folded = λ h. refl }
+        go (fold s l o) = record { some = s; within = omega (arith, long); folded = λ h. refl }
+
+    way-is : v ≡ wayHeight g0 cs cap at
+    way-is = go (d .point)
+      where
+        go : Point g0 gs es v at → v ≡ wayHeight g0 cs cap at
+        go (flat e o) = o ∙ flat-is ∙ sym (way-flat g0 cs cap at (e ∙ long))
+        go (fold s l o) = o ∙ fold-is at s (omega (arith, r .gaps-long)) ∙ sym (way-fold g0 cs cap at (omega (arith, long)))
+
+    none-lower : (p : ℕ) → 0 < p → p ≤ length cs → v ≤ wayHeight g0 cs cap p
+    none-lower p s l = go (order (length cs) p)
+      where
+        go : (length cs ≤ p) ⊎ (p < length cs) → v ≤ wayHeight g0 cs cap p
+        go (inl h) = omega (arith, d .flat-most, flat-is, way-flat g0 cs cap p (omega arith))
+        go (inr h) = omega (arith, d .fold-most p s (omega (arith, long)), fold-is p s (omega (arith, long, r .gaps-long)), way-fold g0 cs cap p h)
+
+    pub is-least : v ≡ leastHeight Nested g0 cs cap
+    is-least =
+        let f = fold-point Nested g0 cs cap (omega (arith, r .some, r .gaps-long, long)) in
+        le-antisymm (omega (arith, f .1 .least, none-lower (f .0) (f .1 .some) (f .1 .within)))
+        (omega (arith, way-is, least-at Nested g0 cs cap at (stands .some) (stands .within) (stands-allowed Nested cs at stands)))
+
+    pub is-point : FoldPoint Nested g0 cs cap at
+    is-point = record { some = stands .some; within = stands .within; allowed = stands-allowed Nested cs at stands; least = sym is-least ∙ way-is }

@@ -5,7 +5,6 @@ use mathlib.Core.List.{List}
 use lib.ListN.{length, getD}
 use Rattle.numbers.specs.Table.{stride, cells}
 use Rattle.terms.specs.Numbers.{mostSize, mostNested}
-use Rattle.group.specs.Group.{lowest}
 use Rattle.group.specs.Table.{mostEntry}
 
 -- The heights of a group by its table: without a fold, and with a fold behind the first p components.
@@ -29,7 +28,8 @@ pub data Point (g0 : ℕ) (gs es : List ℕ) (v p : ℕ) : Type 0 where
   flat : p ≡ length gs → v ≡ flatBy g0 gs es → Point g0 gs es v p
   fold : 0 < p → p < length gs → v ≡ foldBy g0 gs es p → Point g0 gs es v p
 
--- The least height over the first k fold points.
+-- The least height without a fold and over the first k fold points.
 pub record Pass (g0 : ℕ) (gs es : List ℕ) (k v p : ℕ) : Type 0 where
-  pub least : v ≡ lowest (flatBy g0 gs es) (foldBy g0 gs es) k
+  pub flat-most : v ≤ flatBy g0 gs es
+  pub fold-most : (q : ℕ) → 0 < q → q ≤ k → v ≤ foldBy g0 gs es q
   pub point : Point g0 gs es v p

@@ -20,7 +20,7 @@ use Rattle.fold.specs.Calls.{workCheck, foldChecks}
 use Rattle.fold_table.specs.Calls.{tableAnswer}
 use Rattle.folding.specs.Best.{BestForHeight, BestForWidth, Listing}
 use Rattle.group.specs.Rows.{tall, rows}
-use Rattle.group.specs.Group.{none, gapAfter, widest, lowest, leastHeight, firstFrom}
+use Rattle.group.specs.Group.{none, gapAfter, widest, ways, lowest, leastHeight, firstFrom}
 use Rattle.layout.specs.Layout.{Layout, scan, layouts, layoutOf}
 use Rattle.layout.specs.Table.{outline, outlines}
 use Rattle.layout.proofs.Heights.{AllGaps, all-gaps}
@@ -59,7 +59,7 @@ AllComputed [] = Unit {0}
 AllComputed (l ∷ ls) = Computed l × AllComputed ls
 
 computed : AllComputed lines
-unfolding lines headerOf tall rows gapAfter widest lowest leastHeight firstFrom scan layouts outlines stackOf every units
+unfolding lines headerOf tall rows gapAfter widest ways lowest leastHeight firstFrom scan layouts outlines stackOf every units
 computed =
     ((refl, refl), ((refl, refl), ((refl, refl), ((refl, refl), ((refl, refl, refl), ((refl, refl, refl), ((refl, refl), ((refl, refl, refl, refl), ((refl, refl), ((refl, refl), ((refl, refl), ((refl, refl), ((refl, refl), ((refl, refl, refl, refl), ((refl, refl), ((refl, refl), ((refl, refl), (refl, (refl, (refl, (refl, (refl, (refl, (refl, (refl, (refl, (refl, (refl, (refl, (refl, (refl, (refl, (refl, (refl, (refl, (refl, (refl, (refl, (refl, (refl, (refl, (refl, (refl, (refl, (refl, (refl, (refl, tt)))))))))))))))))))))))))))))))))))))))))))))))
 

@@ -4,13 +4,13 @@ use mathlib.Core.Path.{_≡_}
 use mathlib.Core.Logic.{_⊎_, inl, inr}
 use mathlib.Core.List.{List, [], _∷_}
 use native.Mathlib.Omega.{arith}
-use lib.ListN.{take}
+use lib.ListN.{length, take}
 use Rattle.terms.specs.declared.Component.{Component}
 use Rattle.terms.specs.declared.Kind.{Kind}
 use Rattle.terms.specs.declared.Kind.the-variants.{Apart, Nested}
 use Rattle.group.specs.Rows.{tall}
 use Rattle.group.specs.Group.{none, widest, flatHeight, leastHeight, leastWidth}
-use Rattle.group.proofs.Falls.{two-sides}
+use Rattle.group.proofs.Falls.{two-sides, one-side, apart-height}
 use Rattle.group.proofs.First.{Found, first-here, first-found, first-none}
 
 -- The least width of a group.
@@ -32,8 +32,7 @@ TooTall Apart limit cs = limit < tall cs
 TooTall Nested limit cs = 2 * limit < tall cs
 
 too-tall : (kind : Kind) (limit g0 : ℕ) (cs : List Component) (cap : ℕ) → TooTall kind limit cs → limit < leastHeight kind g0 cs cap
-unfolding leastHeight
-too-tall Apart limit g0 cs cap h = omega arith
+too-tall Apart limit g0 cs cap h = omega (arith, one-side g0 cs cap)
 too-tall Nested limit g0 cs cap h = omega (arith, two-sides g0 cs cap)
 
 pub too-tall-none : (kind : Kind) (limit g0 : ℕ) (cs : List Component) → TooTall kind limit cs → leastWidth kind g0 cs limit ≡ none
@@ -51,10 +50,8 @@ too-tall-more Apart limit cs k j h t = omega (arith, tall-take cs k j h)
 too-tall-more Nested limit cs k j h t = omega (arith, tall-take cs k j h)
 
 -- Without a fold the cap does not matter.
-pub apart-met : (g0 : ℕ) (cs : List Component) (limit : ℕ) → flatHeight g0 cs ≤ limit → leastWidth Apart g0 cs limit ≡ widest cs
-unfolding leastHeight
-apart-met g0 cs limit h = first-here (leastHeight Apart g0 cs) limit (widest cs) (widest cs) h
+pub apart-met : (g0 : ℕ) (cs : List Component) (limit : ℕ) → 0 < length cs → flatHeight g0 cs ≤ limit → leastWidth Apart g0 cs limit ≡ widest cs
+apart-met g0 cs limit some h = first-here (leastHeight Apart g0 cs) limit (widest cs) (widest cs) (omega (arith, apart-height g0 cs (widest cs) some))
 
-pub apart-unmet : (g0 : ℕ) (cs : List Component) (limit : ℕ) → limit < flatHeight g0 cs → leastWidth Apart g0 cs limit ≡ none
-unfolding leastHeight
-apart-unmet g0 cs limit h = first-none (leastHeight Apart g0 cs) limit (widest cs) (suc (widest cs)) (λ k l u. h)
+pub apart-unmet : (g0 : ℕ) (cs : List Component) (limit : ℕ) → 0 < length cs → limit < flatHeight g0 cs → leastWidth Apart g0 cs limit ≡ none
+apart-unmet g0 cs limit some h = first-none (leastHeight Apart g0 cs) limit (widest cs) (suc (widest cs)) (λ k l u. omega (arith, apart-height g0 cs k some))

@@ -11,8 +11,9 @@ use Rattle.terms.specs.declared.Kind.{Kind}
 use Rattle.terms.specs.declared.Kind.the-variants.{Apart, Nested}
 use Rattle.terms.specs.Component.{componentIn, componentsIn}
 use Rattle.group.specs.Rows.{tall}
-use Rattle.group.specs.Group.{none, gapAfter, widest, flatHeight, leastWidth, leastHeight}
+use Rattle.group.specs.Group.{none, gapAfter, widest, flatHeight, leastWidth}
 use Rattle.group.proofs.Chains.{order}
+use Rattle.group.proofs.Falls.{apart-height}
 use Rattle.group_height.specs.Heights.{WidthAsks, Narrow}
 use Rattle.layout.specs.Layout.{Layout, candidate, choice}
 use Rattle.layout.specs.Plan.{StackLists}
@@ -43,27 +44,26 @@ module _ {kind : Kind} {limit g0 wide : ℕ} {hs ws gs : List ℕ} {best rest : 
   pub rest-none : none ≤ rest .width .0 → layoutIn best ≡ choice (candidate kind limit g0 (componentsIn hs ws gs) (layoutIn rest) (length hs)) (layoutIn best)
   rest-none h = sym (skip-rest kind limit g0 (componentsIn hs ws gs) (layoutIn rest) (length hs) (layoutIn best) (a .fair) h)
 
-flat-is : (g0 : ℕ) (cs : List Component) (cap : ℕ) → leastHeight Apart g0 cs cap ≡ flatHeight g0 cs
-unfolding leastHeight
-flat-is g0 cs cap = refl
-
 -- Without a fold.
 module _ {limit g0 wide : ℕ} {hs ws gs : List ℕ} {best rest : Best} (a : GroupAsks Apart limit g0 wide hs ws gs best rest) (rows last : ℕ)
     (t : rows ≡ tall (componentsIn hs ws gs)) (l : last ≡ getD gs (length hs - 1) 0) where
+  some-in : 0 < length (componentsIn hs ws gs)
+  some-in = omega (arith, components-length hs ws gs, a .some)
+
   flat : flatHeight g0 (componentsIn hs ws gs) ≡ rows + g0 + last
   flat = omega (arith, gap-end hs ws gs (a .some))
 
   pub flat-high : limit < rows + g0 + last → layoutIn best ≡ choice (candidate Apart limit g0 (componentsIn hs ws gs) (layoutIn rest) (length hs)) (layoutIn best)
   flat-high h =
-      sym (rw (group-unmet Apart limit g0 (componentsIn hs ws gs) (layoutIn rest) (length hs) (omega (arith, apart-unmet g0 (componentsIn hs ws gs) limit (omega (arith, flat)))))
+      sym (rw (group-unmet Apart limit g0 (componentsIn hs ws gs) (layoutIn rest) (length hs) (omega (arith, apart-unmet g0 (componentsIn hs ws gs) limit some-in (omega (arith, flat)))))
       (choice-unmet (layoutIn best) (a .fair)))
 
   pub flat-tried : (r : Layout) (height end : ℕ) → rows + g0 + last ≤ limit → rest .width .0 < none → height ≡ max (rows + g0 + last) (rest .height .0) → end ≡ length hs
       → r ≡ choice (record { width = wide + rest .width .0; height = height; end = end }) (layoutIn best)
       → r ≡ choice (candidate Apart limit g0 (componentsIn hs ws gs) (layoutIn rest) (length hs)) (layoutIn best)
   flat-tried r height end h o eh ee er =
-      let w : leastWidth Apart g0 (componentsIn hs ws gs) limit ≡ widest (componentsIn hs ws gs) = apart-met g0 (componentsIn hs ws gs) limit (omega (arith, flat)) in
-      rw (candidate-is Apart limit g0 (componentsIn hs ws gs) (layoutIn rest) (length hs) (omega (arith, w, widest-4000 Apart hs ws gs (a .lists))) o, w, flat-is g0 (componentsIn hs ws gs) (widest (componentsIn hs ws gs)), flat, ← a .widest-is, ← eh, ← ee) er
+      let w : leastWidth Apart g0 (componentsIn hs ws gs) limit ≡ widest (componentsIn hs ws gs) = apart-met g0 (componentsIn hs ws gs) limit some-in (omega (arith, flat)) in
+      rw (candidate-is Apart limit g0 (componentsIn hs ws gs) (layoutIn rest) (length hs) (omega (arith, w, widest-4000 Apart hs ws gs (a .lists))) o, w, apart-height g0 (componentsIn hs ws gs) (widest (componentsIn hs ws gs)) some-in, flat, ← a .widest-is, ← eh, ← ee) er
 
 -- With the fold that makes it narrowest.
 module _ {limit g0 wide : ℕ} {hs ws gs : List ℕ} {best rest : Best} (a : GroupAsks Nested limit g0 wide hs ws gs best rest) where

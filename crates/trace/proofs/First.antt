@@ -12,7 +12,7 @@ use Rattle.terms.proofs.Lists.{AllSized}
 use Rattle.folding.specs.declared.Placement.{Placement}
 use Rattle.folding.specs.Placement.{placementAt, placementsOf}
 use Rattle.group.specs.Rows.{gap}
-use Rattle.group.specs.Group.{none, gapAfter, leastHeight, leastWidth, FoldPoint, nowhere, behind, groupPlaces}
+use Rattle.group.specs.Group.{none, gapAfter, leastHeight, leastWidth, FoldPoint, groupPlaces}
 use Rattle.folding.specs.Placement.{flatOf}
 use Rattle.folding.proofs.Flat.{flat-length}
 use Rattle.group_trace.proofs.Flat.{placements-flat}
@@ -25,11 +25,6 @@ use Rattle.layout.proofs.Reach.{sized-take, restOf, Chosen, chosen}
 use Rattle.trace.specs.Trace.{Met}
 use Rattle.group.proofs.Indices.{take-tabulate}
 use Rattle.layout.proofs.Columns.{tabulate-rest}
-
--- A group's fold is behind at least one and at most all of its components.
-pub point-within : (kind : Kind) (g0 : ℕ) (cs : List Component) (cap p : ℕ) → 0 < length cs → FoldPoint kind g0 cs cap p → (0 < p) × (p ≤ length cs)
-point-within kind g0 cs cap p s (nowhere e f) = (omega arith, omega arith)
-point-within kind g0 cs cap p s (behind e a b f) = (a, omega arith)
 
 -- The best layouts behind k components are those of the rest.
 layouts-drop : (kind : Kind) (limit g0 : ℕ) (cs : List Component) (k : ℕ) → 0 < k → k ≤ length cs

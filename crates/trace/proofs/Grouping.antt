@@ -1,6 +1,6 @@
 -- One group: where its fold is, for both kinds, and what writing it asks.
 use Prim.Native.Nat.{ℕ, _*_, _≤_}
-use mathlib.Core.Path.{_≡_, refl, sym}
+use mathlib.Core.Path.{_≡_}
 use mathlib.Core.List.{List}
 use native.Mathlib.Omega.{arith}
 use lib.ListN.{length, take}
@@ -9,22 +9,20 @@ use Rattle.terms.specs.declared.Kind.{Kind}
 use Rattle.terms.specs.declared.Kind.the-variants.{Apart, Nested}
 use Rattle.terms.specs.Component.{componentsIn}
 use Rattle.terms.proofs.Answers.{most-256}
-use Rattle.group.specs.Group.{flatHeight, leastHeight, FoldPoint, nowhere}
+use Rattle.group.specs.Group.{FoldPoint}
 use Rattle.group.specs.Table.{Filled}
+use Rattle.group.proofs.Falls.{apart-point}
 use Rattle.group_table.specs.Table.{Asks}
 use Rattle.group_height.specs.Heights.{HeightAsks}
 use Rattle.group_trace.specs.Trace.{WriteAsks}
 use Rattle.trace.specs.Trace.{GroupAsks, FoldFound, FirstAsks}
 use Rattle.layout.proofs.Columns.{columns-of, components-length, lists-take}
-use Rattle.trace.proofs.First.{point-within}
-
-least-apart : (kind : Kind) (g0 cap : ℕ) (hs ws gs : List ℕ) → kind ≡ Apart → leastHeight kind g0 (componentsIn hs ws gs) cap ≡ flatHeight g0 (componentsIn hs ws gs)
-unfolding leastHeight
-least-apart kind g0 cap hs ws gs e = rw e refl
 
 module _ (kind : Kind) (g0 cap : ℕ) (hs ws gs work : List ℕ) (a : GroupAsks kind g0 hs ws gs work) where
   pub apart-found : kind ≡ Apart → FoldFound kind g0 cap hs ws gs work (length hs)
-  apart-found e = record { point = nowhere (sym (components-length hs ws gs)) (least-apart kind g0 cap hs ws gs e); table = λ h. absurd (omega arith) }
+  apart-found e =
+      let n = components-length hs ws gs in
+      record { point = rw e (rw n at (apart-point g0 (componentsIn hs ws gs) cap (omega (arith, n, a .some)))); table = λ h. absurd (omega arith) }
 
   few-nested : kind ≡ Nested → length hs ≤ 64
   few-nested e = rw e at (a .lists .few)
@@ -52,12 +50,11 @@ module _ (kind : Kind) (g0 cap : ℕ) (hs ws gs work : List ℕ) (a : GroupAsks 
     pub write-asks : WriteAsks hs ws filled out p cap
     write-asks =
         let n = components-length hs ws gs in
-        let q = point-within kind g0 (componentsIn hs ws gs) cap p (omega (arith, n, a .some)) (f .point) in
         record {
           columns = columns-of (a .lists);
           few = omega (arith, a .lists .few, most-256 kind);
-          some = q .0;
-          within = omega (arith, n, q .1);
+          some = f .point .some;
+          within = omega (arith, n, f .point .within);
           table = f .table;
           room = room;
         }

@@ -24,7 +24,7 @@ use Rattle.layout.proofs.Folds.{Folds, folds-none}
 use Rattle.trace.specs.Trace.{GroupPut, FirstAsks, Met, TraceAsks, Traced}
 use Rattle.group.proofs.Gaps.{gap-behind}
 use Rattle.layout.proofs.Columns.{components-length, lists-drop, components-take, components-drop, sized-lists}
-use Rattle.trace.proofs.First.{point-within, end-bounds, no-wider, rest-met, joined, placements-behind}
+use Rattle.trace.proofs.First.{end-bounds, no-wider, rest-met, joined, placements-behind}
 
 -- The part of a list from k on, as it is lent.
 abbrev part : ℕ → List ℕ → List ℕ
@@ -106,7 +106,6 @@ module _ (kind : Kind) (group g0 : ℕ) (hs ws gs widths ends out work : List �
           ps-long : length ps ≡ k
           unfolding ps
           ps-long =
-              let p = point-within kind g0 (componentsIn (take k hs) (take k ws) (take k gs)) cap (g .at) (omega (arith, group-long, k-some)) (g .point) in
               ap length (sym (places-bare cap group (g .at) (take k hs) (take k ws) (take k gs)))
               ∙ places-length cap (componentsIn (take k hs) (take k ws) (take k gs)) group (g .at) ∙ group-long
 

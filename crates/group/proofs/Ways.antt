@@ -1,0 +1,120 @@
+-- The ways in which a group may stand, and the least height over them.
+use Prim.Native.Nat.{ℕ, zero, suc, _≤_, _<_, min}
+use mathlib.Core.Path.{_≡_, refl, ap, _∙_}
+use mathlib.Core.Logic.{_⊎_, inl, inr}
+use mathlib.Core.List.{List, [], _∷_}
+use mathlib.Core.Bool.{Bool, true, false, cond}
+use native.Mathlib.Nat.{eq-or-lt-of-le, le-of-suc-le-suc}
+use native.Mathlib.Omega.{arith}
+use lib.ListN.{length}
+use borrow.Author.Tests.{eqb-true, eq-eqb, ne-eqb}
+use Rattle.terms.specs.declared.Component.{Component}
+use Rattle.terms.specs.declared.Kind.{Kind}
+use Rattle.terms.specs.declared.Kind.the-variants.{Apart, Nested}
+use Rattle.group.specs.Group.{flatHeight, foldHeight, mayStand, wayHeight, ways, lowest, leastHeight, FoldPoint}
+use Rattle.group.proofs.Chains.{order}
+
+-- p is one of a list of ways.
+abbrev pub In : ℕ → List ℕ → Type 0
+In p [] = ⊥
+In p (q ∷ l) = (p ≡ q) ⊎ In p l
+
+-- The least over a list is at most each, and it is one of them.
+pub lowest-at : (f : ℕ → ℕ) (l : List ℕ) (p : ℕ) → In p l → lowest f l ≤ f p
+unfolding lowest
+lowest-at f [] p i = absurd i
+lowest-at f (q ∷ []) p (inl e) = rw e (omega arith)
+lowest-at f (q ∷ []) p (inr i) = absurd i
+lowest-at f (q ∷ r ∷ l) p (inl e) = rw e (omega arith)
+lowest-at f (q ∷ r ∷ l) p (inr i) = omega (arith, lowest-at f (r ∷ l) p i)
+
+pub lowest-taken : (f : ℕ → ℕ) (l : List ℕ) (p : ℕ) → In p l → (q : ℕ) × In q l × (lowest f l ≡ f q)
+unfolding lowest
+lowest-taken f [] p i = absurd i
+lowest-taken f (q ∷ []) p i = (q, inl refl, refl)
+lowest-taken f (q ∷ r ∷ l) p i = go (order (f q) (lowest f (r ∷ l))) (lowest-taken f (r ∷ l) r (inl refl))
+  where
+    go : (f q ≤ lowest f (r ∷ l)) ⊎ (lowest f (r ∷ l) < f q) → (s : ℕ) × In s (r ∷ l) × (lowest f (r ∷ l) ≡ f s) → (s : ℕ) × In s (q ∷ r ∷ l) × (min (f q) (lowest f (r ∷ l)) ≡ f s)
+    go (inl h) t = (q, inl refl, omega arith)
+    go (inr h) (s, j, e) = (s, inr j, omega arith)
+
+pub lowest-falls : (f g : ℕ → ℕ) (l : List ℕ) → ((p : ℕ) → f p ≤ g p) → lowest f l ≤ lowest g l
+unfolding lowest
+lowest-falls f g [] h = omega arith
+lowest-falls f g (p ∷ []) h = h p
+lowest-falls f g (p ∷ q ∷ l) h = omega (arith, h p, lowest-falls f g (q ∷ l) h)
+
+-- The list of ways has those of 1 to n that are allowed.
+in-later : (b : Bool) (p q : ℕ) (l : List ℕ) → In p l → In p (cond b (q ∷ l) l)
+in-later true p q l i = inr i
+in-later false p q l i = i
+
+module _ (may : ℕ → Bool) where
+  pub ways-in : (n p : ℕ) → 0 < p → p ≤ n → may p ≡ true → In p (ways may n)
+  unfolding ways
+  ways-in zero p s h a = absurd (omega arith)
+  ways-in (suc n) p s h a = go (eq-or-lt-of-le h) (ways-in n p s)
+    where
+      go : (p ≡ suc n) ⊎ (p < suc n) → (p ≤ n → may p ≡ true → In p (ways may n)) → In p (cond (may (suc n)) (suc n ∷ ways may n) (ways may n))
+      go (inl e) i = rw (rw e at a) (inl e)
+      go (inr l) i = in-later (may (suc n)) p (suc n) (ways may n) (i (le-of-suc-le-suc l) a)
+
+  abbrev Within : ℕ → ℕ → Type 0
+  Within n p = (0 < p) × (p ≤ n) × (may p ≡ true)
+
+  pub in-ways : (n p : ℕ) → In p (ways may n) → (0 < p) × (p ≤ n) × (may p ≡ true)
+  unfolding ways
+  in-ways zero p i = absurd i
+  in-ways (suc n) p i = go (may (suc n)) refl i (in-ways n p)
+    where
+      wider : Within n p → Within (suc n) p
+      wider w = (w .0, omega (arith, w .1), w .2)
+
+      go : (b : Bool) → may (suc n) ≡ b → In p (cond b (suc n ∷ ways may n) (ways may n)) → (In p (ways may n) → Within n p) → Within (suc n) p
+      go true e (inl q) k = (omega arith, omega arith, ap may q ∙ e)
+      go true e (inr j) k = wider (k j)
+      go false e j k = wider (k j)
+
+-- How a legal group of n components stands: at least one is on its left, and where not all of them are, it is nested.
+pub record Stands (kind : Kind) (n p : ℕ) : Type 0 where
+  pub some : 0 < p
+  pub within : p ≤ n
+  pub folded : p < n → kind ≡ Nested
+
+-- What there is to know of the ways that are allowed. Only nested groups have a fold.
+folds-nested : (kind : Kind) (cs : List Component) (p : ℕ) → p < length cs → mayStand kind cs p ≡ true → kind ≡ Nested
+folds-nested Apart cs p h a = absurd (let e = eqb-true p (length cs) a in omega arith)
+folds-nested Nested cs p h a = refl
+
+-- Every legal group stands in one of them.
+flat-allowed : (kind : Kind) (cs : List Component) (p : ℕ) → p ≡ length cs → mayStand kind cs p ≡ true
+flat-allowed Apart cs p e = eq-eqb p (length cs) e
+flat-allowed Nested cs p e = refl
+
+pub stands-allowed : (kind : Kind) (cs : List Component) (p : ℕ) → Stands kind (length cs) p → mayStand kind cs p ≡ true
+stands-allowed kind cs p s = go (order (length cs) p)
+  where
+    go : (length cs ≤ p) ⊎ (p < length cs) → mayStand kind cs p ≡ true
+    go (inl h) = flat-allowed kind cs p (omega (arith, s .within))
+    go (inr h) = rw (s .folded h) refl
+
+-- Any group may stand in one of them.
+pub some-way : (kind : Kind) (cs : List Component) → 0 < length cs → (p : ℕ) × (0 < p) × (p ≤ length cs) × (mayStand kind cs p ≡ true)
+some-way kind cs s = (length cs, s, omega arith, flat-allowed kind cs (length cs) refl)
+
+-- The height of a way without a fold, and with one.
+module _ (g0 : ℕ) (cs : List Component) (cap p : ℕ) where
+  pub way-flat : p ≡ length cs → wayHeight g0 cs cap p ≡ flatHeight g0 cs
+  way-flat e = rw (eq-eqb p (length cs) e)
+
+  pub way-fold : p < length cs → wayHeight g0 cs cap p ≡ foldHeight g0 cs cap p
+  way-fold h = rw (ne-eqb p (length cs) (λ e. omega arith))
+
+-- No way that is allowed is lower than the least height; one that has it is that of a legal group.
+module _ (kind : Kind) (g0 : ℕ) (cs : List Component) (cap p : ℕ) where
+  pub least-at : 0 < p → p ≤ length cs → mayStand kind cs p ≡ true → leastHeight kind g0 cs cap ≤ wayHeight g0 cs cap p
+  unfolding leastHeight
+  least-at s h a = lowest-at (wayHeight g0 cs cap) (ways (mayStand kind cs) (length cs)) p (ways-in (mayStand kind cs) (length cs) p s h a)
+
+  pub point-stands : FoldPoint kind g0 cs cap p → Stands kind (length cs) p
+  point-stands f = record { some = f .some; within = f .within; folded = λ h. folds-nested kind cs p h (f .allowed) }
