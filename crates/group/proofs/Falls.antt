@@ -1,7 +1,6 @@
 -- The least height falls as the cap rises; bounds on it; and a fold point that reaches it.
 use Prim.Native.Nat.{ℕ, _+_, _*_, _≤_, _<_}
 use mathlib.Core.Path.{_≡_, refl, sym, ap, _∙_, subst}
-use mathlib.Core.Logic.{_⊎_, inl, inr}
 use mathlib.Core.List.{List, [], _∷_}
 use mathlib.Core.Bool.{Bool, true, false, cond}
 use native.Mathlib.Omega.{arith}
@@ -12,9 +11,9 @@ use Rattle.terms.specs.declared.Kind.{Kind}
 use Rattle.terms.specs.declared.Kind.the-variants.{Apart, Nested}
 use Rattle.group.specs.Rows.{tall, rows, packed, place}
 use Rattle.group.specs.Group.{leftSide, rightSide, flatHeight, foldHeight, mayStand, wayHeight, ways, leastHeight, FoldPoint}
-use Rattle.group.proofs.Chains.{Stacked, ClearOf, AllClear, order, stacked-tall, stacked-wider, packed-stacked, nothing-lower, reached}
+use Rattle.group.proofs.Chains.{Stacked, ClearOf, AllClear, stacked-tall, stacked-wider, packed-stacked, nothing-lower, reached}
 use Rattle.group.proofs.Sides.{both-sides, tall-sides}
-use Rattle.group.proofs.Ways.{lowest-taken, lowest-falls, ways-in, in-ways, Stands, some-way, way-flat, point-stands}
+use Rattle.group.proofs.Ways.{lowest-taken, lowest-falls, ways-in, in-ways, apart-whole, some-way, way-flat, point-stands}
 
 -- What is clear under a cap is clear under a greater one.
 clear-of : (c d : ℕ) (x : Component) (s : ℕ) (r : List Component) (ts : List ℕ) → c ≤ d → ClearOf c x s r ts → ClearOf d x s r ts
@@ -89,7 +88,7 @@ pub fold-point : (kind : Kind) (g0 : ℕ) (cs : List Component) (c : ℕ) → 0 
 unfolding leastHeight
 fold-point kind g0 cs c some =
     let w = some-way kind cs some in
-    let t = lowest-taken (wayHeight g0 cs c) (ways (mayStand kind cs) (length cs)) (w .0) (ways-in (mayStand kind cs) (length cs) (w .0) (w .1) (w .2) (w .3)) in
+    let t = lowest-taken (wayHeight g0 cs c) (ways (mayStand kind cs) (length cs)) (w .0) (ways-in (mayStand kind cs) (length cs) (w .0) (w .1)) in
     let i = in-ways (mayStand kind cs) (length cs) (t .0) (t .1) in
     (t .0, record { some = i .0; within = i .1; allowed = i .2; least = t .2 })
 
@@ -99,13 +98,6 @@ two-sides g0 [] c = omega arith
 two-sides g0 (x ∷ cs) c = let f = fold-point Nested g0 (x ∷ cs) c (omega arith) in omega (arith, f .1 .least, way-tall g0 (x ∷ cs) c (f .0))
 
 -- An apart group has no fold, so the cap does not matter.
-apart-whole : (n p : ℕ) → Stands Apart n p → p ≡ n
-apart-whole n p s = go (order n p)
-  where
-    go : (n ≤ p) ⊎ (p < n) → p ≡ n
-    go (inl h) = omega (arith, s .within)
-    go (inr h) = let e : Apart ≡ Nested = s .folded h in cc
-
 module _ (g0 : ℕ) (cs : List Component) (c : ℕ) where
   pub apart-point : 0 < length cs → FoldPoint Apart g0 cs c (length cs)
   apart-point some = let f = fold-point Apart g0 cs c some in subst (FoldPoint Apart g0 cs c) (apart-whole (length cs) (f .0) (point-stands Apart g0 cs c (f .0) (f .1))) (f .1)

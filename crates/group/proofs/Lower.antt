@@ -200,8 +200,7 @@ measured kind g0 x a l e r s =
 -- It is no lower than the least height, since its way of standing is allowed.
 pub measured-least : (kind : Kind) (g0 : ℕ) (g : List Placed) → Measured kind g0 g → leastHeight kind g0 (componentsOf g) (groupWidth g) ≤ groupHeight g0 g
 measured-least kind g0 g d =
-    let s = d .stands in
-    omega (arith, d .high, least-at kind g0 (componentsOf g) (groupWidth g) (leftsIn g) (s .some) (s .within) (stands-allowed kind (componentsOf g) (leftsIn g) s))
+    omega (arith, d .high, least-at kind g0 (componentsOf g) (groupWidth g) (leftsIn g) (stands-allowed kind (componentsOf g) (leftsIn g) (d .stands)))
 
 pub least-width : (kind : Kind) (g0 : ℕ) (g : List Placed) (limit : ℕ) → Measured kind g0 g → groupHeight g0 g ≤ limit → leastWidth kind g0 (componentsOf g) limit ≤ groupWidth g
 least-width kind g0 g limit d h =

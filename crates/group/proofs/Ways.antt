@@ -45,32 +45,32 @@ lowest-falls f g (p ∷ []) h = h p
 lowest-falls f g (p ∷ q ∷ l) h = omega (arith, h p, lowest-falls f g (q ∷ l) h)
 
 -- The list of ways has those of 1 to n that are allowed.
+abbrev pub Allowed : (ℕ → Bool) → ℕ → ℕ → Type 0
+Allowed may n p = (0 < p) × (p ≤ n) × (may p ≡ true)
+
 in-later : (b : Bool) (p q : ℕ) (l : List ℕ) → In p l → In p (cond b (q ∷ l) l)
 in-later true p q l i = inr i
 in-later false p q l i = i
 
 module _ (may : ℕ → Bool) where
-  pub ways-in : (n p : ℕ) → 0 < p → p ≤ n → may p ≡ true → In p (ways may n)
+  pub ways-in : (n p : ℕ) → Allowed may n p → In p (ways may n)
   unfolding ways
-  ways-in zero p s h a = absurd (omega arith)
-  ways-in (suc n) p s h a = go (eq-or-lt-of-le h) (ways-in n p s)
+  ways-in zero p a = absurd (omega (arith, a .0, a .1))
+  ways-in (suc n) p a = go (eq-or-lt-of-le (a .1)) (ways-in n p)
     where
-      go : (p ≡ suc n) ⊎ (p < suc n) → (p ≤ n → may p ≡ true → In p (ways may n)) → In p (cond (may (suc n)) (suc n ∷ ways may n) (ways may n))
-      go (inl e) i = rw (rw e at a) (inl e)
-      go (inr l) i = in-later (may (suc n)) p (suc n) (ways may n) (i (le-of-suc-le-suc l) a)
+      go : (p ≡ suc n) ⊎ (p < suc n) → (Allowed may n p → In p (ways may n)) → In p (cond (may (suc n)) (suc n ∷ ways may n) (ways may n))
+      go (inl e) i = rw (rw e at (a .2)) (inl e)
+      go (inr l) i = in-later (may (suc n)) p (suc n) (ways may n) (i (a .0, le-of-suc-le-suc l, a .2))
 
-  abbrev Within : ℕ → ℕ → Type 0
-  Within n p = (0 < p) × (p ≤ n) × (may p ≡ true)
-
-  pub in-ways : (n p : ℕ) → In p (ways may n) → (0 < p) × (p ≤ n) × (may p ≡ true)
+  pub in-ways : (n p : ℕ) → In p (ways may n) → Allowed may n p
   unfolding ways
   in-ways zero p i = absurd i
   in-ways (suc n) p i = go (may (suc n)) refl i (in-ways n p)
     where
-      wider : Within n p → Within (suc n) p
-      wider w = (w .0, omega (arith, w .1), w .2)
+      wider : Allowed may n p → Allowed may (suc n) p
+      wider a = (a .0, omega (arith, a .1), a .2)
 
-      go : (b : Bool) → may (suc n) ≡ b → In p (cond b (suc n ∷ ways may n) (ways may n)) → (In p (ways may n) → Within n p) → Within (suc n) p
+      go : (b : Bool) → may (suc n) ≡ b → In p (cond b (suc n ∷ ways may n) (ways may n)) → (In p (ways may n) → Allowed may n p) → Allowed may (suc n) p
       go true e (inl q) k = (omega arith, omega arith, ap may q ∙ e)
       go true e (inr j) k = wider (k j)
       go false e j k = wider (k j)
@@ -81,26 +81,26 @@ pub record Stands (kind : Kind) (n p : ℕ) : Type 0 where
   pub within : p ≤ n
   pub folded : p < n → kind ≡ Nested
 
--- What there is to know of the ways that are allowed. Only nested groups have a fold.
+pub apart-whole : (n p : ℕ) → Stands Apart n p → p ≡ n
+apart-whole n p s = go (order n p)
+  where
+    go : (n ≤ p) ⊎ (p < n) → p ≡ n
+    go (inl h) = omega (arith, s .within)
+    go (inr h) = let e : Apart ≡ Nested = s .folded h in cc
+
+-- What the kinds allow; nothing else looks into `mayStand`. A fold: only to nested groups.
 folds-nested : (kind : Kind) (cs : List Component) (p : ℕ) → p < length cs → mayStand kind cs p ≡ true → kind ≡ Nested
 folds-nested Apart cs p h a = absurd (let e = eqb-true p (length cs) a in omega arith)
 folds-nested Nested cs p h a = refl
 
--- Every legal group stands in one of them.
-flat-allowed : (kind : Kind) (cs : List Component) (p : ℕ) → p ≡ length cs → mayStand kind cs p ≡ true
-flat-allowed Apart cs p e = eq-eqb p (length cs) e
-flat-allowed Nested cs p e = refl
+-- Every way in which a legal group stands.
+pub stands-allowed : (kind : Kind) (cs : List Component) (p : ℕ) → Stands kind (length cs) p → Allowed (mayStand kind cs) (length cs) p
+stands-allowed Apart cs p s = (s .some, s .within, eq-eqb p (length cs) (apart-whole (length cs) p s))
+stands-allowed Nested cs p s = (s .some, s .within, refl)
 
-pub stands-allowed : (kind : Kind) (cs : List Component) (p : ℕ) → Stands kind (length cs) p → mayStand kind cs p ≡ true
-stands-allowed kind cs p s = go (order (length cs) p)
-  where
-    go : (length cs ≤ p) ⊎ (p < length cs) → mayStand kind cs p ≡ true
-    go (inl h) = flat-allowed kind cs p (omega (arith, s .within))
-    go (inr h) = rw (s .folded h) refl
-
--- Any group may stand in one of them.
-pub some-way : (kind : Kind) (cs : List Component) → 0 < length cs → (p : ℕ) × (0 < p) × (p ≤ length cs) × (mayStand kind cs p ≡ true)
-some-way kind cs s = (length cs, s, omega arith, flat-allowed kind cs (length cs) refl)
+-- Some way to every group: without a fold.
+pub some-way : (kind : Kind) (cs : List Component) → 0 < length cs → (p : ℕ) × Allowed (mayStand kind cs) (length cs) p
+some-way kind cs s = (length cs, stands-allowed kind cs (length cs) (record { some = s; within = omega arith; folded = λ h. absurd (omega arith) }))
 
 -- The height of a way without a fold, and with one.
 module _ (g0 : ℕ) (cs : List Component) (cap p : ℕ) where
@@ -110,11 +110,11 @@ module _ (g0 : ℕ) (cs : List Component) (cap p : ℕ) where
   pub way-fold : p < length cs → wayHeight g0 cs cap p ≡ foldHeight g0 cs cap p
   way-fold h = rw (ne-eqb p (length cs) (λ e. omega arith))
 
--- No way that is allowed is lower than the least height; one that has it is that of a legal group.
+-- No way that is allowed is lower than the least height, and one that has it is that of a legal group.
 module _ (kind : Kind) (g0 : ℕ) (cs : List Component) (cap p : ℕ) where
-  pub least-at : 0 < p → p ≤ length cs → mayStand kind cs p ≡ true → leastHeight kind g0 cs cap ≤ wayHeight g0 cs cap p
+  pub least-at : Allowed (mayStand kind cs) (length cs) p → leastHeight kind g0 cs cap ≤ wayHeight g0 cs cap p
   unfolding leastHeight
-  least-at s h a = lowest-at (wayHeight g0 cs cap) (ways (mayStand kind cs) (length cs)) p (ways-in (mayStand kind cs) (length cs) p s h a)
+  least-at a = lowest-at (wayHeight g0 cs cap) (ways (mayStand kind cs) (length cs)) p (ways-in (mayStand kind cs) (length cs) p a)
 
   pub point-stands : FoldPoint kind g0 cs cap p → Stands kind (length cs) p
   point-stands f = record { some = f .some; within = f .within; folded = λ h. folds-nested kind cs p h (f .allowed) }

@@ -10,10 +10,10 @@ use Rattle.terms.specs.declared.Component.{Component}
 use Rattle.terms.specs.declared.Kind.the-variants.{Nested}
 use Rattle.terms.specs.Component.{componentIn, componentsIn}
 use Rattle.terms.proofs.Tabulate.{tabulate-length}
-use Rattle.group.specs.Group.{flatHeight, foldHeight, wayHeight, leastHeight, FoldPoint}
+use Rattle.group.specs.Group.{flatHeight, foldHeight, mayStand, wayHeight, leastHeight, FoldPoint}
 use Rattle.group.specs.Table.{Filled}
 use Rattle.group.proofs.Chains.{order}
-use Rattle.group.proofs.Ways.{Stands, stands-allowed, way-flat, way-fold, least-at}
+use Rattle.group.proofs.Ways.{Allowed, stands-allowed, way-flat, way-fold, least-at}
 use Rattle.group.proofs.Falls.{fold-point}
 use Rattle.group.proofs.Indices.{at-le}
 use Rattle.group_height.specs.Heights.{HeightAsks}
@@ -93,12 +93,15 @@ module _ {g0 : ℕ} {hs ws gs old es : List ℕ} {cap : ℕ} (r : HeightAsks g0 
     abbrev cs : List Component
     cs = componentsIn hs ws gs
 
-    stands : Stands Nested (length cs) at
-    stands = go (d .point)
+    bounds : (0 < at) × (at ≤ length cs)
+    bounds = go (d .point)
       where
-        go : Point g0 gs es v at → Stands Nested (length cs) at
-        go (flat e o) = record { some = omega (arith, r .some, r .gaps-long); within = omega (arith, long); folded = λ h. refl }
-        go (fold s l o) = record { some = s; within = omega (arith, long); folded = λ h. refl }
+        go : Point g0 gs es v at → (0 < at) × (at ≤ length cs)
+        go (flat e o) = (omega (arith, r .some, r .gaps-long), omega (arith, long))
+        go (fold s l o) = (s, omega (arith, long))
+
+    allowed : Allowed (mayStand Nested cs) (length cs) at
+    allowed = stands-allowed Nested cs at (record { some = bounds .0; within = bounds .1; folded = λ h. refl })
 
     way-is : v ≡ wayHeight g0 cs cap at
     way-is = go (d .point)
@@ -118,7 +121,7 @@ module _ {g0 : ℕ} {hs ws gs old es : List ℕ} {cap : ℕ} (r : HeightAsks g0 
     is-least =
         let f = fold-point Nested g0 cs cap (omega (arith, r .some, r .gaps-long, long)) in
         le-antisymm (omega (arith, f .1 .least, none-lower (f .0) (f .1 .some) (f .1 .within)))
-        (omega (arith, way-is, least-at Nested g0 cs cap at (stands .some) (stands .within) (stands-allowed Nested cs at stands)))
+        (omega (arith, way-is, least-at Nested g0 cs cap at allowed))
 
     pub is-point : FoldPoint Nested g0 cs cap at
-    is-point = record { some = stands .some; within = stands .within; allowed = stands-allowed Nested cs at stands; least = sym is-least ∙ way-is }
+    is-point = record { some = allowed .0; within = allowed .1; allowed = allowed .2; least = sym is-least ∙ way-is }

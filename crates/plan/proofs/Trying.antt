@@ -1,6 +1,6 @@
 -- One group, tried as the first: each way in which trying it ends.
 use Prim.Native.Nat.{ℕ, suc, _+_, _*_, _-_, _≤_, _<_, min, max}
-use mathlib.Core.Path.{_≡_, refl, sym, _∙_}
+use mathlib.Core.Path.{_≡_, sym, _∙_}
 use mathlib.Core.Logic.{_⊎_, inl, inr}
 use mathlib.Core.List.{List, []}
 use native.Mathlib.Omega.{arith}
