@@ -1,12 +1,10 @@
 -- The placements of a group with a fold point reach the least height; at the least width for a height they have that width.
 use Prim.Native.Nat.{ℕ, suc, _+_, _*_, _≤_, _<_, max}
 use mathlib.Core.Path.{_≡_, refl, sym, ap, _∙_, subst}
-use mathlib.Core.Logic.{_⊎_, inl, inr}
-use mathlib.Core.List.{List, [], _∷_, reverseAux, map, append-nil}
+use mathlib.Core.List.{List, [], _∷_, reverseAux, map}
 use native.Mathlib.Nat.{le-antisymm}
 use native.Mathlib.Omega.{arith}
-use lib.ListN.{length, take, drop, length-reverseAux, length-take, length-drop}
-use lib.Seq.{drop-length}
+use lib.ListN.{length, take, length-reverseAux, length-take, length-drop}
 use Rattle.terms.specs.declared.Component.{Component}
 use Rattle.terms.specs.declared.Kind.{Kind}
 use Rattle.terms.specs.declared.Kind.the-variants.{Nested}
@@ -17,14 +15,14 @@ use Rattle.folding.specs.Placement.{placedOf}
 use Rattle.folding.specs.Outline.{groupWidth, groupHeight}
 use Rattle.folding.proofs.Sides.{Fronted}
 use Rattle.group.specs.Rows.{tall, rows, place}
-use Rattle.group.specs.Group.{none, leftSide, rightSide, widest, flatHeight, wayHeight, leastHeight, leastWidth, FoldPoint, onLeft, onRight, groupPlaces}
-use Rattle.group.proofs.Chains.{order, reached}
+use Rattle.group.specs.Group.{none, leftSide, rightSide, widest, wayHeight, leastHeight, leastWidth, FoldPoint, onLeft, onRight, groupPlaces}
+use Rattle.group.proofs.Chains.{reached}
 use Rattle.group.proofs.First.{first-met}
-use Rattle.group.proofs.Sides.{twice, both-sides, tall-sides, widest-sides}
-use Rattle.group.proofs.Ways.{Stands, way-flat, way-fold, point-stands}
+use Rattle.group.proofs.Sides.{both-sides, tall-sides, widest-sides}
+use Rattle.group.proofs.Ways.{Stands, point-stands}
 use Rattle.group.proofs.Lower.{componentsOf, Measured, measured, measured-least, least-width}
 use Rattle.group.proofs.Falls.{rows-most}
-use Rattle.group.proofs.Reach.{Built, sidesHeight, flat-starts, fold-starts, placed-sides, stacked-length}
+use Rattle.group.proofs.Reach.{Built, placed-sides, built-starts, stacked-length}
 
 pub record Reached (kind : Kind) (m g0 c top p : ℕ) (cs : List Component) (ps : List Placement) : Type 0 where
   pub whole : length ps ≡ length cs
@@ -55,32 +53,16 @@ pub places-length : (c : ℕ) (cs : List Component) (m p : ℕ) → length (grou
 unfolding groupPlaces
 places-length c cs m p = whole-places m c (leftSide p cs) (rightSide p cs) ∙ ap length (both-sides p cs)
 
-rows-flat : (c : ℕ) (l : List Component) → rows c 0 0 l [] ≡ tall l
-unfolding rows tall
-rows-flat c [] = omega arith
-rows-flat c (x ∷ l) = omega arith
-
-flat-reached : (kind : Kind) (m g0 c : ℕ) (l : List Component) → 0 < length l → tall l ≤ 1024000 → widest l ≤ c
-    → Reached kind m g0 c (flatHeight g0 (reverseAux l [])) (length l) (reverseAux l []) (placesOf m c l [])
-unfolding placedOf
-flat-reached kind m g0 c l n h w =
-    let q = reached c l [] in
-    let s = place c 0 0 l [] in
-    record {
-      whole = whole-places m c l [];
-      built = rw (placed-sides m 0 0 (rows c 0 0 l []) l (s .on-left) [] (onRight m (s .on-right)) (q .left-stacked)) (flat-starts kind m g0 c l (s .on-left) n (rw (rows-flat c l) at (q .left-stacked)) h w);
-    }
-
-fold-reached : (m g0 c : ℕ) (l r : List Component) → 0 < length l → 0 < length r → tall l + tall r ≤ 1024000 → widest l ≤ c → widest r ≤ c
-    → Reached Nested m g0 c (sidesHeight g0 c l r) (length l) (reverseAux l r) (placesOf m c l r)
-fold-reached m g0 c l r n k h w v =
+reached-sides : (kind : Kind) (m g0 c : ℕ) (l r : List Component) → 0 < length l → (0 < length r → kind ≡ Nested) → tall l + tall r ≤ 1024000 → widest l ≤ c → widest r ≤ c
+    → Reached kind m g0 c (wayHeight g0 (reverseAux l r) c (length l)) (length l) (reverseAux l r) (placesOf m c l r)
+reached-sides kind m g0 c l r n k h w v =
     let q = reached c l r in
     let s = place c 0 0 l r in
     record {
       whole = whole-places m c l r;
       built =
           rw (placed-sides m 0 0 (rows c 0 0 l r) l (s .on-left) r (onRight m (s .on-right)) (q .left-stacked))
-          (fold-starts m g0 c l r (s .on-left) (s .on-right) n k (q .left-stacked) (q .right-stacked) (q .clear) (omega (arith, rows-most c l r, h)) w v);
+          (built-starts kind m g0 c l r (s .on-left) (s .on-right) n k (q .left-stacked) (q .right-stacked) (q .clear) (omega (arith, rows-most c l r, h)) w v);
     }
 
 tall-most : (cs : List Component) → AllSized cs → tall cs ≤ 4000 * length cs
@@ -98,42 +80,17 @@ sides-widest p cs = sym (widest-sides (leftSide p cs) (rightSide p cs)) ∙ ap w
 left-length : (p : ℕ) (cs : List Component) → p ≤ length cs → length (leftSide p cs) ≡ p
 left-length p cs h = omega (arith, length-reverseAux (take p cs) [], length-take p cs)
 
-left-back : (p : ℕ) (cs : List Component) → reverseAux (leftSide p cs) [] ≡ take p cs
-left-back p cs = twice (take p cs) [] [] ∙ append-nil (take p cs)
-
--- A way in which the group may stand.
-module _ (kind : Kind) (m g0 : ℕ) (cs : List Component) (c p : ℕ) (few : length cs ≤ 256) (sized : AllSized cs) (wide : widest cs ≤ c) (stands : Stands kind (length cs) p) where
-  left-long : length (leftSide p cs) ≡ p
-  left-long = left-length p cs (stands .within)
-
-  low-sides : tall (leftSide p cs) + tall (rightSide p cs) ≤ 1024000
-  low-sides = omega (arith, sides-tall p cs, tall-most cs sized)
-
-  -- from the two sides to the group
-  whole-group : (top : ℕ) → wayHeight g0 cs c p ≡ top → Reached kind m g0 c top (length (leftSide p cs)) (reverseAux (leftSide p cs) (rightSide p cs)) (placesOf m c (leftSide p cs) (rightSide p cs))
-      → Reached kind m g0 c (wayHeight g0 cs c p) p cs (groupPlaces c cs m p)
-  unfolding groupPlaces
-  whole-group top e q = rw e (rw (both-sides p cs, left-long) at q)
-
-  flat-way : p ≡ length cs → Reached kind m g0 c (wayHeight g0 cs c p) p cs (groupPlaces c cs m p)
-  flat-way e =
-      let none-right : rightSide p cs ≡ [] = ap (λ (k : ℕ). drop k cs) e ∙ drop-length cs in
-      let all-left : reverseAux (leftSide p cs) [] ≡ cs = ap (reverseAux (leftSide p cs)) (sym none-right) ∙ both-sides p cs in
-      whole-group (flatHeight g0 (reverseAux (leftSide p cs) [])) (way-flat g0 cs c p e ∙ ap (flatHeight g0) (sym all-left))
-      (rw none-right (flat-reached kind m g0 c (leftSide p cs) (omega (arith, left-long, stands .some)) (omega (arith, low-sides)) (omega (arith, sides-widest p cs))))
-
-  fold-way : p < length cs → Reached kind m g0 c (wayHeight g0 cs c p) p cs (groupPlaces c cs m p)
-  fold-way h =
-      whole-group (sidesHeight g0 c (leftSide p cs) (rightSide p cs)) (way-fold g0 cs c p h ∙ rw (both-sides p cs, left-back p cs))
-      (rw (stands .folded h) (fold-reached m g0 c (leftSide p cs) (rightSide p cs) (omega (arith, left-long, stands .some)) (omega (arith, length-drop p cs)) low-sides
-      (omega (arith, sides-widest p cs)) (omega (arith, sides-widest p cs))))
-
-  pub way-reached : Reached kind m g0 c (wayHeight g0 cs c p) p cs (groupPlaces c cs m p)
-  way-reached = go (order (length cs) p)
-    where
-      go : (length cs ≤ p) ⊎ (p < length cs) → Reached kind m g0 c (wayHeight g0 cs c p) p cs (groupPlaces c cs m p)
-      go (inl h) = flat-way (omega (arith, stands .within))
-      go (inr h) = fold-way h
+-- The placements of a way are at most as high as the way.
+pub way-reached : (kind : Kind) (m g0 : ℕ) (cs : List Component) (c p : ℕ) → length cs ≤ 256 → AllSized cs → widest cs ≤ c → Stands kind (length cs) p
+    → Reached kind m g0 c (wayHeight g0 cs c p) p cs (groupPlaces c cs m p)
+unfolding groupPlaces
+way-reached kind m g0 cs c p few sized wide s =
+    let n = left-length p cs (s .within) in
+    rw (both-sides p cs, n)
+    at (reached-sides kind m g0 c (leftSide p cs) (rightSide p cs) (omega (arith, n, s .some)) (λ h. s .folded (omega (arith, length-drop p cs)))
+    (omega (arith, sides-tall p cs, tall-most cs sized))
+    (omega (arith, sides-widest p cs))
+    (omega (arith, sides-widest p cs)))
 
 -- A folding of one group of components.
 pub record GroupFolds (kind : Kind) (m g0 : ℕ) (cs : List Component) (ps : List Placement) (w h : ℕ) : Type 0 where

@@ -85,15 +85,14 @@ pub sized-sides : (l r : List Component) → AllSized (reverseAux l r) → AllSi
 sized-sides [] r s = (tt, s)
 sized-sides (x ∷ l) r s = let k = sized-sides l (x ∷ r) s in ((k .1 .0, k .0), k .1 .1)
 
--- What a legal group comes to: its width is between the widest and twice the widest, and it is no lower than its way of
--- standing asks for.
+-- A legal group: its width is between the widest and twice the widest, and it is no lower than its way of standing.
 pub record Measured (kind : Kind) (g0 : ℕ) (g : List Placed) : Type 0 where
   pub wide : widest (componentsOf g) ≤ groupWidth g
   pub slim : groupWidth g ≤ 2 * widest (componentsOf g)
   pub stands : Stands kind (length (componentsOf g)) (leftsIn g)
   pub high : wayHeight g0 (componentsOf g) (groupWidth g) (leftsIn g) ≤ groupHeight g0 g
 
--- The components on the left of two sides, and those on the right.
+-- Its way of standing by its sides: the left one is in front of the fold, and a right one is in nested groups only.
 lefts-front : (kind : Kind) (m : ℕ) (l r : List Placed) → Members kind m true l → leftsIn (reverseAux l r) ≡ length (componentsOf l) + leftsIn r
 unfolding leftsIn
 lefts-front kind m [] r e = omega arith
@@ -121,21 +120,21 @@ fold-sides : (g0 : ℕ) (c : Component) (l : List Component) (d : Component) (r 
     → foldHeight g0 (reverseAux (c ∷ l) (d ∷ r)) at (length (c ∷ l)) ≡ rows at 0 0 (c ∷ l) (d ∷ r) + max g0 (gapAfter (d ∷ r)) + gap c
 fold-sides g0 c l d r at = rw (left-side (c ∷ l) (d ∷ r), right-side (c ∷ l) (d ∷ r), take-left (c ∷ l) (d ∷ r), gap-front c l, gap-sides (c ∷ l) d r)
 
-high-sides : (kind : Kind) (m g0 : ℕ) (x : Placed) (l r : List Placed) (at : ℕ) → Members kind m true (x ∷ l) → Members kind m false r
-    → rows at 0 0 (componentsOf (x ∷ l)) (componentsOf r) ≤ max (topOf (x ∷ l)) (topOf r)
-    → wayHeight g0 (componentsOf (reverseAux (x ∷ l) r)) at (length (componentsOf (x ∷ l))) ≤ groupHeight g0 (reverseAux (x ∷ l) r)
+-- A group and its way of standing differ in height by their rows alone.
+pub way-sides : (kind : Kind) (m g0 : ℕ) (x : Placed) (l r : List Placed) (at : ℕ) → Members kind m true (x ∷ l) → Members kind m false r
+    → wayHeight g0 (componentsOf (reverseAux (x ∷ l) r)) at (length (componentsOf (x ∷ l))) + max (topOf (x ∷ l)) (topOf r)
+    ≡ groupHeight g0 (reverseAux (x ∷ l) r) + rows at 0 0 (componentsOf (x ∷ l)) (componentsOf r)
 unfolding rows topOf
-high-sides kind m g0 x l [] at e f h =
+way-sides kind m g0 x l [] at e f =
     let cs = componentsOf (x ∷ l) in
     rw (components-sides (x ∷ l) [])
-    (omega (arith, h, flat-height kind m g0 x l e, flat-sides g0 (x .component) (componentsOf l), way-flat g0 (reverseAux cs []) at (length cs) (omega (arith, length-reverseAux cs []))))
-high-sides kind m g0 x l (y ∷ r) at e f h =
+    (omega (arith, flat-height kind m g0 x l e, flat-sides g0 (x .component) (componentsOf l), way-flat g0 (reverseAux cs []) at (length cs) (omega (arith, length-reverseAux cs []))))
+way-sides kind m g0 x l (y ∷ r) at e f =
     let cs = componentsOf (x ∷ l) in
     let ds = componentsOf (y ∷ r) in
     rw (components-sides (x ∷ l) (y ∷ r))
     (omega (
       arith,
-      h,
       last-gap (y ∷ r),
       fold-height kind m g0 x l y r e f,
       fold-sides g0 (x .component) (componentsOf l) (y .component) (componentsOf r) at,
@@ -184,7 +183,7 @@ module _ (kind : Kind) (m g0 : ℕ) (x : Placed) (l r : List Placed) (cl : Chain
   }
 
   measured-sides : Measured kind g0 group
-  measured-sides = record { wide = sides-widest; slim = sides-bound; stands = stands-sides; high = rw lefts-are (high-sides kind m g0 x l r width ml mr rows-low) }
+  measured-sides = record { wide = sides-widest; slim = sides-bound; stands = stands-sides; high = rw lefts-are (omega (arith, way-sides kind m g0 x l r width ml mr, rows-low)) }
 
 measured-order : (kind : Kind) (g0 m : ℕ) (g : List Placed) (x : Placed) (l r : List Placed) → g ≡ reverseAux (x ∷ l) r → Chain 0 (x ∷ l) → Chain 0 r → Members kind m true (x ∷ l)
     → Members kind m false r → AllSized (componentsOf g) → Measured kind g0 g

@@ -1,4 +1,4 @@
--- The placements of a group are at most as high as its way of standing asks for.
+-- The placements of two chains make a group that is at most as high as its way of standing.
 use Prim.Native.Nat.{ℕ, suc, _+_, _≤_, _<_, max}
 use mathlib.Core.Path.{_≡_, refl, ap, _∙_}
 use mathlib.Core.List.{List, [], _∷_, reverseAux, map}
@@ -14,13 +14,12 @@ use Rattle.folding.specs.declared.Placement.{Placement}
 use Rattle.folding.specs.Placement.{left, placedOf}
 use Rattle.folding.specs.Legal.{onSide}
 use Rattle.folding.specs.Outline.{topOf, groupWidth, groupHeight}
-use Rattle.folding.proofs.Sides.{Chain, Members, Fronted, group-of, flat-height, fold-height}
+use Rattle.folding.proofs.Sides.{Chain, Members, Fronted, group-of}
 use Rattle.folding.proofs.Pairs.{Narrow, FitAll, AllFit, cap-of}
-use Rattle.group.specs.Rows.{ht, tall, rows}
-use Rattle.group.specs.Group.{gapAfter, widest, flatHeight}
+use Rattle.group.specs.Rows.{ht, rows}
+use Rattle.group.specs.Group.{widest, wayHeight}
 use Rattle.group.proofs.Chains.{Stacked, ClearOf, AllClear, stacked-tall}
-use Rattle.group.proofs.Sides.{tall-sides, gap-sides, gap-front}
-use Rattle.group.proofs.Lower.{componentsOf, leftsIn, lefts-sides, components-sides, last-gap}
+use Rattle.group.proofs.Lower.{componentsOf, leftsIn, components-sides, lefts-sides, way-sides}
 
 -- One side of the group numbered m.
 abbrev pub sideAt : ℕ → ℕ → ℕ → Placement
@@ -95,7 +94,7 @@ stands-left : (kind : Kind) (x : Placed) → left x ≡ true → onSide kind x �
 stands-left Apart x e = e
 stands-left Nested x e = refl
 
--- Two chains that are clear of each other make a group within the cap: at most top high, and with p components on its left.
+-- A group of the components cs within the cap c: at most top high, and with p of them on its left.
 pub record Built (kind : Kind) (m g0 c top p : ℕ) (cs : List Component) (g : List Placed) : Type 0 where
   pub group : Fronted kind m g
   pub holds : componentsOf g ≡ cs
@@ -103,74 +102,45 @@ pub record Built (kind : Kind) (m g0 c top p : ℕ) (cs : List Component) (g : L
   pub low : groupHeight g0 g ≤ top
   pub lefts : leftsIn g ≡ p
 
--- The height of a group with a fold, by its sides.
-abbrev pub sidesHeight : ℕ → ℕ → List Component → List Component → ℕ
-sidesHeight g0 c l r = rows c 0 0 l r + max g0 (gapAfter (reverseAux l r)) + gapAfter (reverseAux l [])
-
-fit-none : (c : ℕ) (l : List Placed) → AllFit c l []
-fit-none c [] = tt
-fit-none c (x ∷ l) = (tt, fit-none c l)
-
--- Without a fold, and with one.
-flat-built : (kind : Kind) (m g0 c : ℕ) (x : Placed) (l : List Placed) (cs : List Component) → componentsOf (x ∷ l) ≡ cs → Members kind m true (x ∷ l) → Chain 0 (x ∷ l) → topOf (x ∷ l) ≤ tall cs
-    → Narrow c (x ∷ l) → Built kind m g0 c (flatHeight g0 (reverseAux cs [])) (length cs) (reverseAux cs []) (reverseAux (x ∷ l) [])
-unfolding tall
-flat-built kind m g0 c x l cs q ms ch tp na = record {
-  group = group-of kind m 0 x l [] ch tt ms tt;
-  holds = components-sides (x ∷ l) [] ∙ ap (λ (k : List Component). reverseAux k []) q;
-  narrow = cap-of c 0 0 (x ∷ l) [] ch tt na tt (fit-none c (x ∷ l));
-  low =
-      rw (flat-height kind m g0 x l ms)
-      (omega (arith, tp, gap-front (x .component) (componentsOf l), ap (λ (k : List Component). gapAfter (reverseAux k [])) q, tall-sides cs []));
-  lefts = lefts-sides kind m (x ∷ l) [] ms tt ∙ ap length q;
+-- Two chains that are clear of each other make one that is at most as high as its way of standing.
+built-sides : (kind : Kind) (m g0 c p : ℕ) (cs : List Component) (x : Placed) (l r : List Placed) → componentsOf (reverseAux (x ∷ l) r) ≡ cs → length (componentsOf (x ∷ l)) ≡ p → Chain 0 (x ∷ l) → Chain 0 r
+    → Members kind m true (x ∷ l) → Members kind m false r → max (topOf (x ∷ l)) (topOf r) ≤ rows c 0 0 (componentsOf (x ∷ l)) (componentsOf r) → Narrow c (x ∷ l) → Narrow c r → AllFit c (x ∷ l) r
+    → Built kind m g0 c (wayHeight g0 cs c p) p cs (reverseAux (x ∷ l) r)
+built-sides kind m g0 c p cs x l r e n cl cr ml mr tp nl nr f = record {
+  group = group-of kind m 0 x l r cl cr ml mr;
+  holds = e;
+  narrow = cap-of c 0 0 (x ∷ l) r cl cr nl nr f;
+  low = rw (← e, ← n) (omega (arith, way-sides kind m g0 x l r c ml mr, tp));
+  lefts = lefts-sides kind m (x ∷ l) r ml mr ∙ n;
 }
 
-fold-built : (m g0 c : ℕ) (x : Placed) (l : List Placed) (y : Placed) (r : List Placed) (cs ds : List Component) → componentsOf (x ∷ l) ≡ cs → componentsOf (y ∷ r) ≡ ds
-    → Members Nested m true (x ∷ l) → Members Nested m false (y ∷ r) → Chain 0 (x ∷ l) → Chain 0 (y ∷ r) → max (topOf (x ∷ l)) (topOf (y ∷ r)) ≤ rows c 0 0 cs ds → Narrow c (x ∷ l) → Narrow c (y ∷ r)
-    → AllFit c (x ∷ l) (y ∷ r) → Built Nested m g0 c (sidesHeight g0 c cs ds) (length cs) (reverseAux cs ds) (reverseAux (x ∷ l) (y ∷ r))
-fold-built m g0 c x l y r cs ds q u ml mr cl cr tp nl nr f =
-    let join : reverseAux (componentsOf (x ∷ l)) (componentsOf (y ∷ r)) ≡ reverseAux cs ds = ap (λ (k : List Component). reverseAux k (componentsOf (y ∷ r))) q ∙ ap (reverseAux cs) u in
-    record {
-      group = group-of Nested m 0 x l (y ∷ r) cl cr ml mr;
-      holds = components-sides (x ∷ l) (y ∷ r) ∙ join;
-      narrow = cap-of c 0 0 (x ∷ l) (y ∷ r) cl cr nl nr f;
-      low =
-          rw (fold-height Nested m g0 x l y r ml mr)
-          (omega (arith, tp, last-gap (y ∷ r), gap-sides (componentsOf (x ∷ l)) (y .component) (componentsOf r), ap gapAfter join, gap-front (x .component) (componentsOf l), ap (λ (k : List Component). gapAfter (reverseAux k [])) q));
-      lefts = lefts-sides Nested m (x ∷ l) (y ∷ r) ml mr ∙ ap length q;
-    }
+-- There is a right side in nested groups only.
+right-members : (kind : Kind) (m hi : ℕ) (r : List Component) (ts : List ℕ) → (0 < length r → kind ≡ Nested) → hi ≤ 1024000 → Stacked 0 hi r ts → Members kind m false (placed m 1 r ts)
+unfolding placedOf
+right-members kind m hi [] ts k h g = tt
+right-members kind m hi (y ∷ r) ts k h g = rw (k (omega arith)) (stacked-members Nested m 1 0 hi (y ∷ r) ts (omega arith) (λ z b. refl) h g)
 
 -- The same for the start rows of two chains.
-pub flat-starts : (kind : Kind) (m g0 c : ℕ) (l : List Component) (ss : List ℕ) → 0 < length l → Stacked 0 (tall l) l ss → tall l ≤ 1024000 → widest l ≤ c
-    → Built kind m g0 c (flatHeight g0 (reverseAux l [])) (length l) (reverseAux l []) (reverseAux (placed m 0 l ss) [])
+pub built-starts : (kind : Kind) (m g0 c : ℕ) (l r : List Component) (ss ts : List ℕ) → 0 < length l → (0 < length r → kind ≡ Nested) → Stacked 0 (rows c 0 0 l r) l ss → Stacked 0 (rows c 0 0 l r) r ts
+    → AllClear c l ss r ts → rows c 0 0 l r ≤ 1024000 → widest l ≤ c → widest r ≤ c
+    → Built kind m g0 c (wayHeight g0 (reverseAux l r) c (length l)) (length l) (reverseAux l r) (reverseAux (placed m 0 l ss) (placed m 1 r ts))
 unfolding placedOf
-flat-starts kind m g0 c [] ss n st h w = absurd (omega arith)
-flat-starts kind m g0 c (x ∷ l) [] n st h w = absurd st
-flat-starts kind m g0 c (x ∷ l) (s ∷ ss) n st h w =
-    let hi = tall (x ∷ l) in
-    flat-built kind m g0 c (record { component = x; placement = sideAt m 0 s }) (placed m 0 l ss) (x ∷ l) (components-placed m 0 0 hi (x ∷ l) (s ∷ ss) st)
+built-starts kind m g0 c [] r ss ts n k st su f h w v = absurd (omega arith)
+built-starts kind m g0 c (x ∷ l) r [] ts n k st su f h w v = absurd st
+built-starts kind m g0 c (x ∷ l) r (s ∷ ss) ts n k st su f h w v =
+    let hi = rows c 0 0 (x ∷ l) r in
+    let ls = placed m 0 (x ∷ l) (s ∷ ss) in
+    let rs = placed m 1 r ts in
+    let el : componentsOf ls ≡ x ∷ l = components-placed m 0 0 hi (x ∷ l) (s ∷ ss) st in
+    let er : componentsOf rs ≡ r = components-placed m 1 0 hi r ts su in
+    built-sides kind m g0 c (length (x ∷ l)) (reverseAux (x ∷ l) r) (record { component = x; placement = sideAt m 0 s }) (placed m 0 l ss) rs
+    (components-sides ls rs ∙ ap (λ (k : List Component). reverseAux k (componentsOf rs)) el ∙ ap (reverseAux (x ∷ l)) er)
+    (ap length el)
+    (stacked-chain m 0 0 hi (x ∷ l) (s ∷ ss) st)
+    (stacked-chain m 1 0 hi r ts su)
     (stacked-members kind m 0 0 hi (x ∷ l) (s ∷ ss) (omega arith) (stands-left kind) h st)
-    (stacked-chain m 0 0 hi (x ∷ l) (s ∷ ss) st)
-    (stacked-top m 0 0 hi (x ∷ l) (s ∷ ss) st)
+    (right-members kind m hi r ts k h su)
+    (rw (el, er) (omega (arith, stacked-top m 0 0 hi (x ∷ l) (s ∷ ss) st, stacked-top m 1 0 hi r ts su)))
     (narrow-placed m 0 c (x ∷ l) (s ∷ ss) w)
-
-pub fold-starts : (m g0 c : ℕ) (l r : List Component) (ss ts : List ℕ) → 0 < length l → 0 < length r → Stacked 0 (rows c 0 0 l r) l ss → Stacked 0 (rows c 0 0 l r) r ts → AllClear c l ss r ts
-    → rows c 0 0 l r ≤ 1024000 → widest l ≤ c → widest r ≤ c → Built Nested m g0 c (sidesHeight g0 c l r) (length l) (reverseAux l r) (reverseAux (placed m 0 l ss) (placed m 1 r ts))
-unfolding placedOf
-fold-starts m g0 c [] r ss ts n k st su f h w v = absurd (omega arith)
-fold-starts m g0 c (x ∷ l) [] ss ts n k st su f h w v = absurd (omega arith)
-fold-starts m g0 c (x ∷ l) (y ∷ r) [] ts n k st su f h w v = absurd st
-fold-starts m g0 c (x ∷ l) (y ∷ r) (s ∷ ss) [] n k st su f h w v = absurd su
-fold-starts m g0 c (x ∷ l) (y ∷ r) (s ∷ ss) (t ∷ ts) n k st su f h w v =
-    let hi = rows c 0 0 (x ∷ l) (y ∷ r) in
-    fold-built m g0 c (record { component = x; placement = sideAt m 0 s }) (placed m 0 l ss) (record { component = y; placement = sideAt m 1 t }) (placed m 1 r ts) (x ∷ l) (y ∷ r)
-    (components-placed m 0 0 hi (x ∷ l) (s ∷ ss) st)
-    (components-placed m 1 0 hi (y ∷ r) (t ∷ ts) su)
-    (stacked-members Nested m 0 0 hi (x ∷ l) (s ∷ ss) (omega arith) (λ z b. refl) h st)
-    (stacked-members Nested m 1 0 hi (y ∷ r) (t ∷ ts) (omega arith) (λ z b. refl) h su)
-    (stacked-chain m 0 0 hi (x ∷ l) (s ∷ ss) st)
-    (stacked-chain m 1 0 hi (y ∷ r) (t ∷ ts) su)
-    (omega (arith, stacked-top m 0 0 hi (x ∷ l) (s ∷ ss) st, stacked-top m 1 0 hi (y ∷ r) (t ∷ ts) su))
-    (narrow-placed m 0 c (x ∷ l) (s ∷ ss) w)
-    (narrow-placed m 1 c (y ∷ r) (t ∷ ts) v)
-    (clear-fits m c (x ∷ l) (s ∷ ss) (y ∷ r) (t ∷ ts) f)
+    (narrow-placed m 1 c r ts v)
+    (clear-fits m c (x ∷ l) (s ∷ ss) r ts f)
