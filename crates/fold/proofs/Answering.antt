@@ -19,7 +19,8 @@ use Rattle.fold.specs.Calls.{foldChecks, validOf, Searched, Answered}
 use Rattle.plan.specs.Asks.{Plannable}
 use Rattle.fold.specs.Inner.{FirstLists, Written}
 use Rattle.fold.proofs.Checks.{Lent, lent, refused-alike, all-well}
-use Rattle.fold.proofs.Held.{Stacked, stacked}
+use Rattle.layout.proofs.Groups.{Stacked}
+use Rattle.fold.proofs.Held.{stacked}
 use Rattle.fold.proofs.Limits.{to-height}
 
 module _ (Best : Kind → List Component → ℕ → List Placement → Outline → Type 0) (Unmeetable : Kind → List Component → ℕ → Type 0) (kind : Kind) (limit : ℕ) (out work : List ℕ) where

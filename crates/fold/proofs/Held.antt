@@ -12,7 +12,8 @@ use Rattle.terms.proofs.Lists.{heightsOf, widthsOf, gapsOf, length-map, all-siz
 use Rattle.stack.proofs.Valid.{valid}
 use Rattle.stack.proofs.Reading.{Held}
 use Rattle.layout.specs.Plan.{StackLists}
-use Rattle.layout.proofs.Heights.{AllGaps, all-gaps}
+use Rattle.layout.proofs.Bounds.{AllGaps, all-gaps}
+use Rattle.layout.proofs.Groups.{Stacked}
 use Rattle.layout.proofs.Columns.{sized-lists, components-length}
 use Rattle.fold.specs.Inner.{FirstLists}
 
@@ -75,18 +76,14 @@ gaps-tabulate g (suc n) h = last (tabulate g n) (gaps-tabulate g n h)
     last [] a = (h n, tt)
     last (c ∷ cs) a = (a .0, last cs (a .1))
 
-pub record Stacked (cs : List Component) : Type 0 where
-  pub some : 0 < length cs
-  pub few : length cs ≤ 256
-  pub sized : AllSized cs
-  pub gapped : AllGaps cs
-
 pub stacked : (kind : Kind) (hs ws gs : List ℕ) → StackLists kind hs ws gs → 0 < length hs → Stacked (componentsIn hs ws gs)
 stacked kind hs ws gs s p =
     let n = components-length hs ws gs in
     record {
       some = omega arith;
-      few = omega (arith, s .few, most-256 kind);
-      sized = sized-lists s;
-      gapped = gaps-tabulate (componentIn hs ws gs) (length hs) (s .near);
+      good = record {
+        few = omega (arith, s .few, most-256 kind);
+        sized = sized-lists s;
+        gapped = gaps-tabulate (componentIn hs ws gs) (length hs) (s .near);
+      };
     }

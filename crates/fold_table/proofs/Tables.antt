@@ -17,15 +17,16 @@ use Rattle.folding.specs.Best.{Listing}
 use Rattle.folding.proofs.Measuring.{components-held}
 use Rattle.folding.proofs.Listings.{one-listing, few-listed}
 use Rattle.group.specs.Group.{none}
+use Rattle.model.specs.Outlines.{outlinesBy}
+use Rattle.model.proofs.Best.{layout-high}
+use Rattle.model.proofs.Fuel.{outlines-next, outlines-done, outlines-length}
 use Rattle.layout.specs.Layout.{layoutOf}
-use Rattle.layout.specs.Table.{outlines}
-use Rattle.layout.proofs.Reach.{met-keeps}
-use Rattle.layout.proofs.Table.{layout-high, table}
-use Rattle.layout.proofs.Fuel.{outlines-next, outlines-done, outlines-length}
+use Rattle.layout.proofs.Foldings.{search}
+use Rattle.layout.proofs.Table.{table}
 use Rattle.plan.specs.Asks.{Plannable, bestAt}
 use Rattle.fold.specs.Calls.{workCheck}
 use Rattle.fold.specs.Inner.{FirstLists}
-use Rattle.fold.proofs.Held.{Stacked}
+use Rattle.layout.proofs.Groups.{Stacked}
 use Rattle.fold_table.specs.Calls.{tableValidOf, pairsOf, tableAnswer, tableInto, Tabled, TableAnswered}
 use Rattle.fold_table.specs.Inner.{outlinesTo, allOutlines, allInto, CountedTo, WrittenTo}
 
@@ -59,7 +60,7 @@ module _ (new put : List ℕ) (at a b : ℕ) (fits : at + 2 ≤ length new) (p :
   put-long = ap length parts ∙ omega (arith, length-append (take at new ++ (a ∷ b ∷ [])) (drop (at + 2) new), front-long, length-drop (at + 2) new)
 
 pub none-to : (kind : Kind) (cs : List Component) (limit : ℕ) → limit ≤ 0 → outlinesTo kind cs limit ≡ []
-unfolding outlines
+unfolding outlinesBy
 none-to kind cs zero h = refl
 none-to kind cs (suc limit) h = absurd (omega arith)
 
@@ -73,7 +74,7 @@ module _ (kind : Kind) (cs : List Component) (s : Stacked cs) where
   -- The next outline, where there is one.
   module _ (limit : ℕ) (o : Outline) (e : o ≡ bestAt kind limit cs) where
     pub no-more : none ≤ o .width .0 → outlinesTo kind cs limit ≡ []
-    no-more h = outlines-done kind cs (s .some) (s .few) (s .sized) limit (rw e at h)
+    no-more h = outlines-done (search kind cs s) limit (rw e at h)
 
     module _ (h : o .width .0 < none) where
       met : layoutOf kind limit 0 cs .width < none
@@ -83,19 +84,19 @@ module _ (kind : Kind) (cs : List Component) (s : Stacked cs) where
       height-is = ap (λ (p : Outline). p .height .0) e
 
       pub high : 0 < o .height .0
-      high = omega (arith, height-is, layout-high kind cs (s .some) (s .few) (s .sized) limit met)
+      high = omega (arith, height-is, layout-high (search kind cs s) limit met)
 
       pub falls : o .height .0 ≤ limit
-      falls = omega (arith, height-is, met-keeps kind limit 0 cs (s .few) (s .sized) met)
+      falls = omega (arith, height-is, search kind cs s .keeps limit met)
 
       next : outlinesTo kind cs limit ≡ o ∷ outlinesTo kind cs (o .height .0 - 1)
-      next = rw e (outlines-next kind cs (s .some) (s .few) (s .sized) limit met)
+      next = rw e (outlines-next (search kind cs s) limit met)
 
       pub count-more : (n : ℕ) → CountedTo kind cs limit n → CountedTo kind cs (o .height .0 - 1) (n + 1)
       count-more n c = record { most = omega (arith, falls, c .most); rest = omega (arith, c .rest, ap length next) }
 
       pub count-few : (n : ℕ) → CountedTo kind cs limit n → n + 1 ≤ 2000000
-      count-few n c = omega (arith, c .rest, ap length next, outlines-length kind cs 2000000 2000000)
+      count-few n c = omega (arith, c .rest, ap length next, outlines-length (λ limit. layoutOf kind limit 0 cs) 2000000 2000000)
 
       module _ (old new : List ℕ) (at : ℕ) (w : WrittenTo kind cs old new limit at) (room : 2 * length (allOutlines kind cs) ≤ length old) where
         pub pair-fits : at + 2 ≤ length new
@@ -133,12 +134,12 @@ module _ (kind : Kind) (cs : List Component) (s : Stacked cs) where
   module _ (out out′ : List ℕ) (answer : Answer ℕ) where
     tabled-as : answer ≡ tableAnswer (length out) (allOutlines kind cs) → out′ ≡ tableInto (allOutlines kind cs) out → Tabled kind cs out out′ answer
     tabled-as a h =
-        let l = table kind cs (s .some) (s .few) (s .sized) (s .gapped) in
+        let l = table kind cs s in
         record {
           listed = allOutlines kind cs;
           listing = l;
           only = λ other m. one-listing kind cs other (allOutlines kind cs) m l;
-          few = few-listed kind cs (allOutlines kind cs) (s .sized) (s .some) l;
+          few = few-listed kind cs (allOutlines kind cs) (s .good .sized) (s .some) l;
           answers = a;
           holds = h;
         }

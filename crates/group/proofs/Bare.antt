@@ -9,7 +9,8 @@ use Rattle.terms.specs.Component.{tabulate, componentIn, componentsIn}
 use Rattle.group.specs.Rows.{ht, wd, tall, rows, Starts, packed, putLeft, putRight, place}
 use Rattle.group.specs.Group.{leftSide, rightSide, groupPlaces}
 use Rattle.group.specs.Table.{bare}
-use Rattle.group.proofs.Chains.{order, rows-left, rows-right, rows-clash, place-left, place-right, place-left-first, place-right-first}
+use Rattle.terms.proofs.Order.{order}
+use Rattle.group.proofs.Chains.{rows-left, rows-right, rows-clash, place-left, place-right, place-left-first, place-right-first}
 
 abbrev pub gapless : Component → Component
 gapless x = record { height = record { 0 = x .height .0 }; width = record { 0 = x .width .0 }; gap = record { 0 = 0 } }

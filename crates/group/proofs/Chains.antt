@@ -4,10 +4,10 @@ use mathlib.Core.Path.{_≡_, refl}
 use mathlib.Core.Logic.{_⊎_, inl, inr}
 use mathlib.Core.List.{List, [], _∷_}
 use native.Mathlib.Nat.{zero-add, add-zero, add-assoc}
-use native.Mathlib.Decide.{decLe}
 use native.Mathlib.Omega.{arith}
 use borrow.Author.Tests.{le-leb, lt-leb}
 use Rattle.terms.specs.declared.Component.{Component}
+use Rattle.terms.proofs.Order.{order}
 use Rattle.group.specs.Rows.{ht, wd, tall, rows, Starts, packed, putLeft, putRight, place}
 
 -- The components l at the start rows s, each at or above the end of the one before, all within the rows lo to hi.
@@ -62,9 +62,6 @@ module _ (cap a b : ℕ) (x : Component) (l : List Component) (y : Component) (r
       → place cap a b (x ∷ l) (y ∷ r) ≡ putRight b (place cap (b + ht y) (b + ht y) (x ∷ l) r)
   unfolding place
   place-right-first f o = rw (lt-leb (wd x + wd y) cap f, lt-leb (a + ht x + rows cap 0 0 l (y ∷ r)) (b + ht y + rows cap 0 0 (x ∷ l) r) o, place) refl
-
-pub order : (a b : ℕ) → (a ≤ b) ⊎ (b < a)
-order a b = elim (decLe a b) [ yes h ↦ inl h | no h ↦ inr (omega arith) ]
 
 pub stacked-tall : (lo hi : ℕ) (l : List Component) (ss : List ℕ) → Stacked lo hi l ss → lo + tall l ≤ hi
 unfolding tall

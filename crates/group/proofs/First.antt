@@ -5,7 +5,7 @@ use mathlib.Core.Logic.{_⊎_, inl, inr}
 use native.Mathlib.Omega.{arith}
 use borrow.Author.Tests.{le-leb, lt-leb}
 use Rattle.group.specs.Group.{none, firstFrom}
-use Rattle.group.proofs.Chains.{order}
+use Rattle.terms.proofs.Order.{order}
 
 module _ (f : ℕ → ℕ) (limit : ℕ) where
   pub first-here : (c n : ℕ) → f c ≤ limit → firstFrom f limit c (suc n) ≡ c

@@ -7,6 +7,7 @@ use native.Mathlib.Omega.{arith}
 use lib.ListN.{length, getD, take}
 use Rattle.terms.specs.declared.Component.{Component}
 use Rattle.terms.specs.Component.{tabulate, componentIn, componentsIn}
+use Rattle.model.specs.Groups.{gapBehind}
 use Rattle.group.specs.Rows.{gap, tall}
 use Rattle.group.specs.Group.{gapAfter}
 use Rattle.group.specs.Table.{bare, entry}
@@ -14,7 +15,7 @@ use Rattle.group.proofs.Bare.{tall-bare, bare-is}
 use Rattle.group.proofs.Indices.{rows-no-left, take-tabulate}
 
 gap-snoc : (l : List Component) (x : Component) → gapAfter (l ++ (x ∷ [])) ≡ gap x
-unfolding gapAfter
+unfolding gapBehind
 gap-snoc [] x = refl
 gap-snoc (y ∷ []) x = refl
 gap-snoc (y ∷ z ∷ l) x = gap-snoc (z ∷ l) x

@@ -13,7 +13,8 @@ use Rattle.terms.specs.Component.{tabulate}
 use Rattle.terms.proofs.Tabulate.{tabulate-length, tabulate-drop, tabulate-end}
 use Rattle.group.specs.Rows.{ht, wd, tall, rows}
 use Rattle.group.specs.Group.{leftSide, rightSide}
-use Rattle.group.proofs.Chains.{order, rows-left, rows-right, rows-clash}
+use Rattle.terms.proofs.Order.{order}
+use Rattle.group.proofs.Chains.{rows-left, rows-right, rows-clash}
 
 -- The clauses of `rows` where a side is empty.
 pub rows-no-left : (cap a b : ℕ) (r : List Component) → rows cap a b [] r ≡ b + tall r

@@ -17,6 +17,7 @@ use Rattle.folding.proofs.Groups.{Run}
 use Rattle.folding.proofs.Rows.{Tall}
 use Rattle.folding.proofs.Sides.{Chain, Members, sides, flat-height, fold-height}
 use Rattle.folding.proofs.Pairs.{Narrow, FitAll, AllFit, cap-narrow-left, cap-narrow-right, cap-fits, cap-of}
+use Rattle.model.specs.Groups.{gapBehind}
 use Rattle.group.specs.Rows.{gap, tall, rows}
 use Rattle.group.specs.Group.{gapAfter, widest, flatHeight, foldHeight, wayHeight, leastHeight, leastWidth}
 use Rattle.group.proofs.Chains.{Stacked, ClearOf, AllClear, nothing-lower}
@@ -54,7 +55,7 @@ components-sides [] r = refl
 components-sides (x ∷ l) r = components-sides l (x ∷ r)
 
 pub last-gap : (l : List Placed) → lastGap l ≡ gapAfter (componentsOf l)
-unfolding lastGap gapAfter
+unfolding lastGap gapBehind
 last-gap [] = refl
 last-gap (x ∷ []) = refl
 last-gap (x ∷ y ∷ l) = last-gap (y ∷ l)

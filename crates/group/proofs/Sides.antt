@@ -6,6 +6,7 @@ use native.Mathlib.Nat.{add-suc, suc-add, add-zero}
 use native.Mathlib.Omega.{arith}
 use lib.ListN.{length, take, drop, take-append-drop}
 use Rattle.terms.specs.declared.Component.{Component}
+use Rattle.model.specs.Groups.{gapBehind}
 use Rattle.group.specs.Rows.{gap, tall}
 use Rattle.group.specs.Group.{leftSide, rightSide, gapAfter, widest}
 
@@ -42,7 +43,7 @@ tall-sides [] r = omega arith
 tall-sides (x ∷ l) r = omega (arith, tall-sides l (x ∷ r))
 
 pub gap-sides : (l : List Component) (x : Component) (r : List Component) → gapAfter (reverseAux l (x ∷ r)) ≡ gapAfter (x ∷ r)
-unfolding gapAfter
+unfolding gapBehind
 gap-sides [] x r = refl
 gap-sides (y ∷ l) x r = gap-sides l y (x ∷ r)
 
@@ -52,5 +53,5 @@ widest-sides [] r = omega arith
 widest-sides (x ∷ l) r = omega (arith, widest-sides l (x ∷ r))
 
 pub gap-front : (x : Component) (l : List Component) → gapAfter (reverseAux (x ∷ l) []) ≡ gap x
-unfolding gapAfter
+unfolding gapBehind
 gap-front x l = gap-sides l x []

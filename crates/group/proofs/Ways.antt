@@ -12,7 +12,7 @@ use Rattle.terms.specs.declared.Component.{Component}
 use Rattle.terms.specs.declared.Kind.{Kind}
 use Rattle.terms.specs.declared.Kind.the-variants.{Apart, Nested}
 use Rattle.group.specs.Group.{flatHeight, foldHeight, mayStand, wayHeight, ways, lowest, leastHeight, FoldPoint}
-use Rattle.group.proofs.Chains.{order}
+use Rattle.terms.proofs.Order.{order}
 
 -- p is one of a list of ways.
 abbrev pub In : ℕ → List ℕ → Type 0

@@ -11,11 +11,9 @@ use Rattle.terms.specs.declared.Component.{Component}
 use Rattle.terms.specs.declared.Kind.{Kind}
 use Rattle.terms.specs.declared.Kind.the-variants.{Apart, Nested}
 use Rattle.folding.specs.declared.Placement.{Placement}
+use Rattle.model.specs.Groups.{gapBehind}
 use Rattle.group.specs.Rows.{wd, gap, tall, rows, place}
-
--- A number over all widths, heights and limits: there is none.
-abbrev pub none : ℕ
-none = 4000000
+pub use Rattle.model.specs.Groups.{none}
 
 -- The two sides of a group with a fold behind its first p components, each lowest first.
 abbrev pub leftSide : ℕ → List Component → List Component
@@ -25,10 +23,8 @@ abbrev pub rightSide : ℕ → List Component → List Component
 rightSide p cs = drop p cs
 
 -- The gap of the last one, and the greatest width.
-unfoldable pub gapAfter : List Component → ℕ
-gapAfter [] = 0
-gapAfter (x ∷ []) = gap x
-gapAfter (x ∷ y ∷ l) = gapAfter (y ∷ l)
+abbrev pub gapAfter : List Component → ℕ
+gapAfter cs = gapBehind (λ x. gap x) cs
 
 unfoldable pub widest : List Component → ℕ
 widest [] = 0
@@ -42,7 +38,7 @@ abbrev pub foldHeight : ℕ → List Component → ℕ → ℕ → ℕ
 foldHeight g0 cs cap p = rows cap 0 0 (leftSide p cs) (rightSide p cs) + max g0 (gapAfter cs) + gapAfter (take p cs)
 
 -- A group's way of standing is the number p of components on its left: its fold is behind them, and it has none where they
--- are all of them. Which ways are allowed is one function of that number. "apart": without a fold; nested: any.
+-- are all of them. Which ways are allowed is one function of that number: apart all of them, nested any.
 abbrev pub mayStand : Kind → List Component → ℕ → Bool
 mayStand Apart cs p = eqb p (length cs)
 mayStand Nested cs p = true

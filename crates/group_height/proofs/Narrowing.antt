@@ -9,7 +9,7 @@ use Rattle.terms.specs.declared.Kind.the-variants.{Nested}
 use Rattle.terms.specs.Component.{tabulate, componentIn, componentsIn}
 use Rattle.group.specs.Rows.{wd}
 use Rattle.group.specs.Group.{none, widest, leastHeight, leastWidth}
-use Rattle.group.proofs.Chains.{order}
+use Rattle.terms.proofs.Order.{order}
 use Rattle.group_height.specs.Heights.{HeightAsks, WidthAsks, Narrow}
 use Rattle.group.proofs.Falls.{falls}
 use Rattle.group.proofs.First.{first-met, first-is}

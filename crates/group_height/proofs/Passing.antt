@@ -12,7 +12,7 @@ use Rattle.terms.specs.Component.{componentIn, componentsIn}
 use Rattle.terms.proofs.Tabulate.{tabulate-length}
 use Rattle.group.specs.Group.{flatHeight, foldHeight, mayStand, wayHeight, leastHeight, FoldPoint}
 use Rattle.group.specs.Table.{Filled}
-use Rattle.group.proofs.Chains.{order}
+use Rattle.terms.proofs.Order.{order}
 use Rattle.group.proofs.Ways.{Allowed, stands-allowed, way-flat, way-fold, least-at}
 use Rattle.group.proofs.Falls.{fold-point}
 use Rattle.group.proofs.Indices.{at-le}

@@ -9,7 +9,7 @@ use lib.ListN.{length, getD, set, length-set}
 use lib.Seq.{getD-set-same, getD-set-other}
 use Rattle.terms.specs.Component.{componentIn}
 use Rattle.group.specs.Table.{entry, Columns, Filled}
-use Rattle.group.proofs.Chains.{order}
+use Rattle.terms.proofs.Order.{order}
 use Rattle.group_table.specs.Inner.{Right, Ready, RowAsks, RowDone, Low, TopDone, SideDone}
 use Rattle.group.proofs.Indices.{corner, top-next, side-next}
 

@@ -13,7 +13,7 @@ use Rattle.terms.specs.Component.{componentIn}
 use Rattle.group.specs.Rows.{rows}
 use Rattle.group.specs.Group.{leftSide, rightSide}
 use Rattle.group.specs.Table.{bare, entry, mostEntry}
-use Rattle.group.proofs.Chains.{order}
+use Rattle.terms.proofs.Order.{order}
 use Rattle.group_table.specs.Inner.{Sharing, Ready, Ending, Ended}
 use Rattle.group.proofs.Indices.{at-top, at-side, at-left, at-right, at-clash, at-le}
 

@@ -4,7 +4,6 @@ use mathlib.Core.Path.{_≡_, refl, sym, ap, subst}
 use mathlib.Core.List.{List, [], _∷_}
 use mathlib.Core.Bool.{Bool, true, false}
 use native.Mathlib.Omega.{arith}
-use lib.ListN.{length}
 use lib.Dec.{leb, ltb}
 use borrow.Author.Tests.{ltb-true, ltb-false, leb-true}
 use Rattle.terms.specs.declared.Component.{Component}
@@ -12,20 +11,25 @@ use Rattle.terms.specs.declared.Kind.{Kind}
 use Rattle.terms.specs.Answer.{Answer, refusal, result}
 use Rattle.terms.specs.Component.{mostOf, stackOf, countOf, every}
 use Rattle.terms.proofs.Answers.{stack-is, most-256, result-same}
-use Rattle.terms.proofs.Lists.{AllSized, all-sized}
+use Rattle.terms.proofs.Lists.{all-sized}
 use Rattle.stack.specs.File.{headerOf}
 use Rattle.folding.specs.declared.Outline.{Outline}
 use Rattle.folding.specs.declared.Placement.{Placement}
 use Rattle.fold.specs.Calls.{workCheck, foldChecks}
 use Rattle.fold_table.specs.Calls.{tableAnswer}
 use Rattle.folding.specs.Best.{BestForHeight, BestForWidth, Listing}
+use Rattle.model.specs.Groups.{gapBehind}
+use Rattle.model.specs.Layout.{scanBy, layoutsBy}
+use Rattle.model.specs.Outlines.{outlinesBy}
+use Rattle.model.proofs.Best.{Below, unmeetable-height, unmeetable-width}
 use Rattle.group.specs.Rows.{tall, rows}
-use Rattle.group.specs.Group.{none, gapAfter, widest, ways, lowest, leastHeight, firstFrom}
-use Rattle.layout.specs.Layout.{Layout, scan, layouts, layoutOf}
+use Rattle.group.specs.Group.{none, widest, ways, lowest, leastHeight, firstFrom}
+use Rattle.layout.specs.Layout.{Layout, layoutOf}
 use Rattle.layout.specs.Table.{outline, outlines}
-use Rattle.layout.proofs.Heights.{AllGaps, all-gaps}
-use Rattle.layout.proofs.Reach.{reach}
-use Rattle.layout.proofs.Best.{best-height, unmeetable-height, Below, best-width, unmeetable-width}
+use Rattle.layout.proofs.Bounds.{all-gaps}
+use Rattle.layout.proofs.Groups.{Stacked}
+use Rattle.layout.proofs.Foldings.{search}
+use Rattle.layout.proofs.Best.{reach, best-height, best-width}
 use Rattle.layout.proofs.Table as tables
 use Rattle.known.proofs.Answering.{answers}
 use Rattle.known.specs.Known.{Line, to-height, to-width, table, header, size, lent, table-work, table-room, Holds, AllHold, units, lines}
@@ -59,23 +63,15 @@ AllComputed [] = Unit {0}
 AllComputed (l ∷ ls) = Computed l × AllComputed ls
 
 computed : AllComputed lines
-unfolding lines headerOf tall rows gapAfter widest ways lowest leastHeight firstFrom scan layouts outlines stackOf every units
+unfolding lines headerOf tall rows gapBehind widest ways lowest leastHeight firstFrom scanBy layoutsBy outlinesBy stackOf every units
 computed =
     ((refl, refl), ((refl, refl), ((refl, refl), ((refl, refl), ((refl, refl, refl), ((refl, refl, refl), ((refl, refl), ((refl, refl, refl, refl), ((refl, refl), ((refl, refl), ((refl, refl), ((refl, refl), ((refl, refl), ((refl, refl, refl, refl), ((refl, refl), ((refl, refl), ((refl, refl), (refl, (refl, (refl, (refl, (refl, (refl, (refl, (refl, (refl, (refl, (refl, (refl, (refl, (refl, (refl, (refl, (refl, (refl, (refl, (refl, (refl, (refl, (refl, (refl, (refl, (refl, (refl, (refl, (refl, (refl, tt)))))))))))))))))))))))))))))))))))))))))))))))
 
 -- What a stack's check says.
-module _ (kind : Kind) (cs : List Component) (e : IsStack kind cs) where
-  stack-few : length cs ≤ 256
-  stack-few = omega (arith, stack-is (mostOf kind) cs cs e .1 .few, most-256 kind)
-
-  stack-some : 0 < length cs
-  stack-some = stack-is (mostOf kind) cs cs e .1 .some
-
-  stack-sized : AllSized cs
-  stack-sized = all-sized cs (stack-is (mostOf kind) cs cs e .1 .sizes)
-
-  stack-gaps : AllGaps cs
-  stack-gaps = all-gaps cs (stack-is (mostOf kind) cs cs e .1 .gaps)
+stacked : (kind : Kind) (cs : List Component) → IsStack kind cs → Stacked cs
+stacked kind cs e =
+    let s = stack-is (mostOf kind) cs cs e .1 in
+    record { some = s .some; good = record { few = omega (arith, s .few, most-256 kind); sized = all-sized cs (s .sizes); gapped = all-gaps cs (s .gaps) } }
 
 met-is : (t : Bool) (b : Layout) (o : Outline) → ltb (b .width) none ≡ t → answerOf t b ≡ result o → (b .width < none) × (outline (b .width) (b .height) ≡ o)
 met-is true b o t q = (ltb-true _ _ t, result-same q)
@@ -89,22 +85,22 @@ width-found : (kind : Kind) (cs : List Component) (limit : ℕ) (o : Outline) �
     × (outline (layoutOf kind (o .height .0) 0 cs .width) (layoutOf kind (o .height .0) 0 cs .height) ≡ o) → o .width .0 ≤ limit → limit < layoutOf kind (o .height .0 - 1) 0 cs .width
     → (ps : List Placement) × BestForWidth kind cs limit ps o
 width-found kind cs limit o e r w b =
-    let few = stack-few kind cs e in
-    let s = stack-sized kind cs e in
+    let s = stacked kind cs e in
     let at = o .height .0 in
-    let f = reach kind at 0 0 cs few s (r .0) in
-    let below : Below kind cs few s limit at = λ k h. let z : at - 1 ≡ k = omega (arith, h) in rw z at b in
-    (f .0, subst (BestForWidth kind cs limit (f .0)) (r .1) (best-width kind cs few s limit at below (f .0) (omega (arith, w, ap (λ (x : Outline). x .width .0) (r .1))) (r .0) (f .1)))
+    let f = reach kind cs s at (r .0) in
+    let below : Below (λ lim. layoutOf kind lim 0 cs) limit at = λ k h. let z : at - 1 ≡ k = omega (arith, h) in rw z at b in
+    (f .0, subst (BestForWidth kind cs limit (f .0)) (r .1) (best-width kind cs s at (f .0) (r .0) (f .1) limit below (omega (arith, w, ap (λ (x : Outline). x .width .0) (r .1)))))
 
 sound : (l : Line) → Computed l → Holds l
-sound (to-height kind cs limit (refusal k)) h = let r = unmet-is _ (layoutOf kind limit 0 cs) k refl (h .1) in (r .1, unmeetable-height kind cs (stack-few kind cs (h .0)) (stack-sized kind cs (h .0)) limit (r .0))
+sound (to-height kind cs limit (refusal k)) h = let r = unmet-is _ (layoutOf kind limit 0 cs) k refl (h .1) in (r .1, unmeetable-height (search kind cs (stacked kind cs (h .0))) limit (r .0))
 sound (to-height kind cs limit (result o)) h =
     let r = met-is _ (layoutOf kind limit 0 cs) o refl (h .1) in
-    let f = reach kind limit 0 0 cs (stack-few kind cs (h .0)) (stack-sized kind cs (h .0)) (r .0) in
-    (f .0, subst (BestForHeight kind cs limit (f .0)) (r .1) (best-height kind cs (stack-few kind cs (h .0)) (stack-sized kind cs (h .0)) limit (f .0) (r .0) (f .1)))
-sound (to-width kind cs limit (refusal k)) h = (h .1, unmeetable-width kind cs (stack-few kind cs (h .0)) (stack-sized kind cs (h .0)) (stack-gaps kind cs (h .0)) limit (ltb-true _ _ (h .2)))
+    let s = stacked kind cs (h .0) in
+    let f = reach kind cs s limit (r .0) in
+    (f .0, subst (BestForHeight kind cs limit (f .0)) (r .1) (best-height kind cs s limit (f .0) (r .0) (f .1)))
+sound (to-width kind cs limit (refusal k)) h = (h .1, unmeetable-width (search kind cs (stacked kind cs (h .0))) limit (ltb-true _ _ (h .2)))
 sound (to-width kind cs limit (result o)) h = width-found kind cs limit o (h .0) (met-is _ (layoutOf kind (o .height .0) 0 cs) o refl (h .1)) (leb-true _ _ (h .2)) (ltb-true _ _ (h .3))
-sound (table kind cs os) h = subst (Listing kind cs) (h .1) (tables.table kind cs (stack-some kind cs (h .0)) (stack-few kind cs (h .0)) (stack-sized kind cs (h .0)) (stack-gaps kind cs (h .0)))
+sound (table kind cs os) h = subst (Listing kind cs) (h .1) (tables.table kind cs (stacked kind cs (h .0)))
 sound (header file k) h = h
 sound (size kind cs a) h = h
 sound (lent limit out work a) h = h

@@ -1,5 +1,5 @@
 -- Foldings of a stack with a given outline, put together from a first group and the rest.
-use Prim.Native.Nat.{ℕ, suc, _+_, max}
+use Prim.Native.Nat.{ℕ, _+_, max}
 use mathlib.Core.Path.{_≡_, refl, ap, _∙_}
 use mathlib.Core.List.{List, [], _∷_, _++_}
 use native.Mathlib.Omega.{arith}
@@ -31,12 +31,6 @@ placed-append [] [] bs qs e = refl
 placed-append [] (p ∷ ps) bs qs e = absurd (omega arith)
 placed-append (a ∷ gs) [] bs qs e = absurd (omega arith)
 placed-append (a ∷ gs) (p ∷ ps) bs qs e = ap (λ (l : List Placed). record { component = a; placement = p } ∷ l) (placed-append gs ps bs qs (omega arith))
-
-pub placed-length : (cs : List Component) (ps : List Placement) → length ps ≡ length cs → length (placedOf cs ps) ≡ length cs
-unfolding placedOf
-placed-length [] ps e = refl
-placed-length (c ∷ cs) [] e = absurd (omega arith)
-placed-length (c ∷ cs) (p ∷ ps) e = ap suc (placed-length cs ps (omega arith))
 
 pub folds-none : (kind : Kind) (m g0 : ℕ) → Folds kind m g0 [] [] 0 0
 unfolding placedOf groupsOf layoutWidth layoutHeight

@@ -1,12 +1,9 @@
-pub mod Scan
-pub mod Lower
-pub mod Folds
-pub mod Reach
-pub mod Widths
-pub mod Prune
 pub mod Bounds
-pub mod Heights
+pub mod Groups
+pub mod Folds
+pub mod Foldings
 pub mod Best
 pub mod Table
-pub mod Fuel
+pub mod Widths
+pub mod Prune
 pub mod Columns

@@ -9,9 +9,12 @@ use Rattle.terms.specs.declared.Component.{Component}
 use Rattle.terms.specs.declared.Kind.{Kind}
 use Rattle.terms.specs.declared.Kind.the-variants.{Apart, Nested}
 use Rattle.group.specs.Rows.{tall}
-use Rattle.layout.specs.Layout.{Layout, unmet, candidate, choice, scan, layouts, layoutOf}
+use Rattle.model.specs.Layout.{scanBy, layoutsBy, candidateFor}
+use Rattle.model.proofs.Choice.{Fair}
+use Rattle.model.proofs.Scan.{scan-fair}
+use Rattle.layout.specs.Layout.{Layout, unmet, groups, candidate, choice, layouts, layoutOf}
 use Rattle.layout.proofs.Widths.{TooTall}
-use Rattle.layout.proofs.Prune.{Fair, scan-fair, scan-stop}
+use Rattle.layout.proofs.Prune.{scan-stop}
 use Rattle.plan.specs.Asks.{bestTo, mostRows}
 
 too-tall : (kind : Kind) (limit : ℕ) (cs : List Component) → mostRows kind limit < tall cs → TooTall kind limit cs
@@ -20,15 +23,15 @@ too-tall Nested limit cs h = h
 
 module _ (kind : Kind) (limit g0 : ℕ) (cs : List Component) where
   pub best-none : bestTo kind limit g0 cs 0 ≡ unmet
-  unfolding scan
+  unfolding scanBy
   best-none = refl
 
   pub best-fair : (k : ℕ) → Fair (bestTo kind limit g0 cs k)
-  best-fair k = scan-fair kind limit g0 cs (drop 1 (layouts kind limit g0 cs)) k
+  best-fair k = scan-fair (candidateFor (groups kind) limit) g0 cs (drop 1 (layouts kind limit g0 cs)) k
 
   pub best-more : (k : ℕ)
       → bestTo kind limit g0 cs (suc k) ≡ choice (candidate kind limit g0 (take (suc k) cs) (getD (layouts kind limit g0 cs) (suc k) unmet) (suc k)) (bestTo kind limit g0 cs k)
-  unfolding scan
+  unfolding scanBy
   best-more k =
       ap (λ (z : Layout). choice (candidate kind limit g0 (take (suc k) cs) z (suc k)) (bestTo kind limit g0 cs k))
       (getD-drop 1 (layouts kind limit g0 cs) k unmet ∙ ap (λ (z : ℕ). getD (layouts kind limit g0 cs) z unmet) (omega arith))
@@ -37,6 +40,6 @@ module _ (kind : Kind) (limit g0 : ℕ) (cs : List Component) where
   best-stop j k h t = scan-stop kind limit g0 cs (drop 1 (layouts kind limit g0 cs)) k j (too-tall kind limit (take (suc k) cs) t) h
 
 pub best-of-all : (kind : Kind) (limit g0 : ℕ) (cs : List Component) → 0 < length cs → bestTo kind limit g0 cs (length cs) ≡ layoutOf kind limit g0 cs
-unfolding layouts
+unfolding layoutsBy
 best-of-all kind limit g0 [] h = absurd (omega arith)
 best-of-all kind limit g0 (x ∷ cs) h = refl

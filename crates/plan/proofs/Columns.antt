@@ -7,6 +7,7 @@ use lib.ListN.{length, getD, take}
 use Rattle.terms.specs.declared.Component.{Component}
 use Rattle.terms.specs.Component.{componentIn, componentsIn}
 use Rattle.terms.proofs.Tabulate.{tabulate-at}
+use Rattle.model.specs.Groups.{gapBehind}
 use Rattle.group.specs.Rows.{ht, wd, gap, tall}
 use Rattle.group.specs.Group.{gapAfter, widest}
 
@@ -31,7 +32,7 @@ widest-more (x ∷ cs) zero d h = omega arith
 widest-more (x ∷ cs) (suc k) d h = omega (arith, widest-more cs k d (omega arith))
 
 pub gap-last : (cs : List Component) (k : ℕ) (d : Component) → k < length cs → gapAfter (take (suc k) cs) ≡ gap (getD cs k d)
-unfolding gapAfter
+unfolding gapBehind
 gap-last [] k d h = absurd (omega arith)
 gap-last (x ∷ cs) zero d h = refl
 gap-last (x ∷ []) (suc k) d h = absurd (omega arith)

@@ -2,7 +2,7 @@
 use Prim.Native.Nat.{ℕ, zero, suc, _+_, _-_, _≤_, _<_}
 use mathlib.Core.Path.{_≡_, refl, sym, ap, _∙_}
 use mathlib.Core.Logic.{_⊎_, inl, inr}
-use mathlib.Core.List.{List, [], _∷_}
+use mathlib.Core.List.{List, []}
 use native.Mathlib.Nat.{eq-or-lt-of-le}
 use native.Mathlib.Omega.{arith}
 use lib.ListN.{length, getD, take, drop, set, length-set, length-drop}
@@ -12,34 +12,25 @@ use Rattle.terms.specs.declared.Kind.{Kind}
 use Rattle.terms.specs.Component.{componentIn, componentsIn}
 use Rattle.terms.proofs.Parts.{from}
 use Rattle.group.specs.Rows.{gap}
-use Rattle.layout.specs.Layout.{Layout, unmet, empty, layouts, layoutOf}
+use Rattle.model.specs.Layout.{candidateFor}
+use Rattle.model.proofs.Scan.{layouts-drop, layouts-end}
+use Rattle.layout.specs.Layout.{Layout, unmet, empty, groups, layouts, layoutOf}
 use Rattle.layout.specs.Table.{outline}
 use Rattle.layout.specs.Plan.{PlannedAt}
 use Rattle.plan.specs.declared.Best.{Best}
 use Rattle.plan.specs.Asks.{layoutIn, Later, FirstAsks, FromAsks, PlanAsks, PlannedFrom, PlanDone, gapBefore}
 use Rattle.plan.proofs.Gaps.{gap-near}
-use Rattle.plan.proofs.Columns.{component-at}
+use Rattle.plan.proofs.Columns.{component-at, gap-last}
 use Rattle.layout.proofs.Columns.{components-length, components-drop, lists-drop}
 
 module _ (kind : Kind) (limit : ℕ) where
-  pub layouts-drop : (cs : List Component) (g0 k : ℕ) (d : Component) → k < length cs → drop (suc k) (layouts kind limit g0 cs) ≡ layouts kind limit (gap (getD cs k d)) (drop (suc k) cs)
-  unfolding layouts
-  layouts-drop [] g0 k d h = absurd (omega arith)
-  layouts-drop (x ∷ cs) g0 zero d h = refl
-  layouts-drop (x ∷ cs) g0 (suc k) d h = layouts-drop cs (gap x) k d (omega arith)
-
-  pub layouts-end : (cs : List Component) (g0 : ℕ) → getD (layouts kind limit g0 cs) (length cs) unmet ≡ empty
-  unfolding layouts
-  layouts-end [] g0 = refl
-  layouts-end (x ∷ cs) g0 = layouts-end cs (gap x)
-
   rest-drop : (hs ws gs : List ℕ) (i : ℕ) → i ≤ length hs
       → layouts kind limit (gapBefore gs i) (componentsIn (drop i hs) (drop i ws) (drop i gs)) ≡ drop i (layouts kind limit 0 (componentsIn hs ws gs))
   rest-drop hs ws gs zero h = refl
   rest-drop hs ws gs (suc i) h =
       rw (components-drop hs ws gs (suc i) h)
-      (sym (layouts-drop (componentsIn hs ws gs) 0 i (componentIn [] [] [] 0) (omega (arith, components-length hs ws gs))
-      ∙ rw (component-at hs ws gs i (omega arith))))
+      (sym (layouts-drop (λ x. gap x) (candidateFor (groups kind) limit) 0 (componentsIn hs ws gs) (suc i) (omega arith) (omega (arith, components-length hs ws gs))
+      ∙ rw (gap-last (componentsIn hs ws gs) i (componentIn [] [] [] 0) (omega (arith, components-length hs ws gs)), component-at hs ws gs i (omega arith))))
 
 module _ {kind : Kind} {limit i : ℕ} {hs ws gs widths heights es : List ℕ} (a : FromAsks kind limit i hs ws gs widths heights es) where
   abbrev all : List Layout
@@ -95,7 +86,7 @@ module _ {kind : Kind} {limit : ℕ} {hs ws gs widths₀ heights₀ ends₀ es�
   long = components-length hs ws gs
 
   at-end : getD (layouts kind limit 0 (componentsIn hs ws gs)) (length hs) unmet ≡ empty
-  at-end = ap (λ (z : ℕ). getD (layouts kind limit 0 cs) z unmet) (sym long) ∙ layouts-end kind limit cs 0
+  at-end = ap (λ (z : ℕ). getD (layouts kind limit 0 cs) z unmet) (sym long) ∙ layouts-end (λ x. gap x) (candidateFor (groups kind) limit) cs 0
 
   pub plan-start : PlannedFrom kind limit (componentsIn hs ws gs) (set widths₀ (length hs) 0) (set heights₀ (length hs) 0) (set ends₀ (length hs) 0) (length hs)
   plan-start = record {

@@ -10,15 +10,15 @@ use Rattle.terms.specs.Numbers.{leastWork}
 use Rattle.terms.specs.declared.Component.{Component}
 use Rattle.terms.specs.declared.Kind.{Kind}
 use Rattle.terms.specs.Component.{componentIn, componentsIn}
-use Rattle.group.specs.Rows.{tall}
+use Rattle.group.specs.Rows.{gap, tall}
 use Rattle.group.specs.Group.{none, widest}
-use Rattle.layout.specs.Layout.{Layout, unmet, candidate, choice, layouts, layoutOf}
+use Rattle.layout.specs.Layout.{Layout, unmet, groups, candidate, choice, layouts, layoutOf}
 use Rattle.plan.specs.declared.Best.{Best}
 use Rattle.plan.specs.Asks.{layoutIn, GroupAsks, Packed, mostRows, restAt, FirstAsks, bestTo}
 use Rattle.plan.proofs.Columns.{component-at, tall-more, widest-more}
-use Rattle.layout.proofs.Scan.{no-wider}
-use Rattle.layout.proofs.Prune.{Fair}
-use Rattle.layout.proofs.Bounds.{layouts-fair}
+use Rattle.model.specs.Layout.{candidateFor}
+use Rattle.model.proofs.Choice.{no-wider, Fair}
+use Rattle.model.proofs.Scan.{layouts-fair}
 use Rattle.plan.proofs.Bests.{best-none, best-fair, best-more, best-stop, best-of-all}
 use Rattle.layout.proofs.Columns.{components-length, components-take, lists-take}
 
@@ -85,7 +85,7 @@ module _ {kind : Kind} {limit g0 : ℕ} {hs ws gs widths heights es : List ℕ} 
             before = a .before;
             widest-is = wide-more ∙ ap widest (sym part);
             fair = subst (λ (z : Layout). Fair z) (sym (s .best-is)) (best-fair kind limit g0 cs k);
-            rest-width = omega (arith, ap (λ (z : Best). z .width .0) er, a .later .width-is k (omega (arith, long)), no-wider (getD (layouts kind limit g0 cs) (suc k) unmet) none none (layouts-fair kind limit g0 cs (suc k)));
+            rest-width = omega (arith, ap (λ (z : Best). z .width .0) er, a .later .width-is k (omega (arith, long)), no-wider (getD (layouts kind limit g0 cs) (suc k) unmet) none none (layouts-fair (λ x. gap x) (candidateFor (groups kind) limit) g0 cs (suc k)));
           },
           ((rows-more ∙ ap tall (sym part), omega arith), omega (arith, a .room)),
         )

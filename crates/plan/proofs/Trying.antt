@@ -3,6 +3,7 @@ use Prim.Native.Nat.{ℕ, suc, _+_, _*_, _-_, _≤_, _<_, min, max}
 use mathlib.Core.Path.{_≡_, sym, _∙_}
 use mathlib.Core.Logic.{_⊎_, inl, inr}
 use mathlib.Core.List.{List, []}
+use mathlib.Core.Bool.{true}
 use native.Mathlib.Omega.{arith}
 use lib.ListN.{length, getD, take}
 use lib.Seq.{length-take-le, take-all}
@@ -12,17 +13,18 @@ use Rattle.terms.specs.declared.Kind.the-variants.{Apart, Nested}
 use Rattle.terms.specs.Component.{componentIn, componentsIn}
 use Rattle.group.specs.Rows.{tall}
 use Rattle.group.specs.Group.{none, gapAfter, widest, flatHeight, leastWidth}
-use Rattle.group.proofs.Chains.{order}
+use Rattle.terms.proofs.Order.{order}
 use Rattle.group.proofs.Falls.{apart-height}
 use Rattle.group_height.specs.Heights.{WidthAsks, Narrow}
-use Rattle.layout.specs.Layout.{Layout, candidate, choice}
+use Rattle.layout.specs.Layout.{Layout, groups, candidate, choice}
 use Rattle.layout.specs.Plan.{StackLists}
 use Rattle.plan.specs.declared.Best.{Best}
 use Rattle.plan.specs.Asks.{layoutIn, GroupAsks}
 use Rattle.plan.proofs.Columns.{component-at, gap-last, widest-most}
-use Rattle.layout.proofs.Scan.{candidate-is}
+use Rattle.model.proofs.Choice.{choice-unmet}
+use Rattle.model.proofs.Candidates.{candidate-is, group-unmet, skip-rest}
 use Rattle.layout.proofs.Widths.{apart-met, apart-unmet}
-use Rattle.layout.proofs.Prune.{choice-unmet, group-unmet, skip-rest, skip-widest, skip-both}
+use Rattle.layout.proofs.Prune.{skip-widest, skip-both}
 use Rattle.layout.proofs.Columns.{components-length}
 
 pub widest-4000 : (kind : Kind) (hs ws gs : List ℕ) → StackLists kind hs ws gs → widest (componentsIn hs ws gs) ≤ 4000
@@ -42,7 +44,7 @@ module _ {kind : Kind} {limit g0 wide : ℕ} {hs ws gs : List ℕ} {best rest : 
   wide-4000 = omega (arith, a .widest-is, widest-4000 kind hs ws gs (a .lists))
 
   pub rest-none : none ≤ rest .width .0 → layoutIn best ≡ choice (candidate kind limit g0 (componentsIn hs ws gs) (layoutIn rest) (length hs)) (layoutIn best)
-  rest-none h = sym (skip-rest kind limit g0 (componentsIn hs ws gs) (layoutIn rest) (length hs) (layoutIn best) (a .fair) h)
+  rest-none h = sym (skip-rest (groups kind) limit g0 true (componentsIn hs ws gs) (layoutIn rest) (length hs) (layoutIn best) (a .fair) h)
 
 -- Without a fold.
 module _ {limit g0 wide : ℕ} {hs ws gs : List ℕ} {best rest : Best} (a : GroupAsks Apart limit g0 wide hs ws gs best rest) (rows last : ℕ)
@@ -55,7 +57,7 @@ module _ {limit g0 wide : ℕ} {hs ws gs : List ℕ} {best rest : Best} (a : Gro
 
   pub flat-high : limit < rows + g0 + last → layoutIn best ≡ choice (candidate Apart limit g0 (componentsIn hs ws gs) (layoutIn rest) (length hs)) (layoutIn best)
   flat-high h =
-      sym (rw (group-unmet Apart limit g0 (componentsIn hs ws gs) (layoutIn rest) (length hs) (omega (arith, apart-unmet g0 (componentsIn hs ws gs) limit some-in (omega (arith, flat)))))
+      sym (rw (group-unmet (groups Apart) limit g0 true (componentsIn hs ws gs) (layoutIn rest) (length hs) (omega (arith, apart-unmet g0 (componentsIn hs ws gs) limit some-in (omega (arith, flat)))))
       (choice-unmet (layoutIn best) (a .fair)))
 
   pub flat-tried : (r : Layout) (height end : ℕ) → rows + g0 + last ≤ limit → rest .width .0 < none → height ≡ max (rows + g0 + last) (rest .height .0) → end ≡ length hs
@@ -63,7 +65,7 @@ module _ {limit g0 wide : ℕ} {hs ws gs : List ℕ} {best rest : Best} (a : Gro
       → r ≡ choice (candidate Apart limit g0 (componentsIn hs ws gs) (layoutIn rest) (length hs)) (layoutIn best)
   flat-tried r height end h o eh ee er =
       let w : leastWidth Apart g0 (componentsIn hs ws gs) limit ≡ widest (componentsIn hs ws gs) = apart-met g0 (componentsIn hs ws gs) limit some-in (omega (arith, flat)) in
-      rw (candidate-is Apart limit g0 (componentsIn hs ws gs) (layoutIn rest) (length hs) (omega (arith, w, widest-4000 Apart hs ws gs (a .lists))) o, w, apart-height g0 (componentsIn hs ws gs) (widest (componentsIn hs ws gs)) some-in, flat, ← a .widest-is, ← eh, ← ee) er
+      rw (candidate-is (groups Apart) limit g0 true (componentsIn hs ws gs) (layoutIn rest) (length hs) (omega (arith, w, widest-4000 Apart hs ws gs (a .lists))) o, w, apart-height g0 (componentsIn hs ws gs) (widest (componentsIn hs ws gs)) some-in, flat, ← a .widest-is, ← eh, ← ee) er
 
 -- With the fold that makes it narrowest.
 module _ {limit g0 wide : ℕ} {hs ws gs : List ℕ} {best rest : Best} (a : GroupAsks Nested limit g0 wide hs ws gs best rest) where
@@ -107,7 +109,7 @@ module _ {limit g0 wide : ℕ} {hs ws gs : List ℕ} {best rest : Best} (a : Gro
         go (inr p) = absurd (omega (arith, n .over p))
         go (inl p) =
             let f = n .within p in
-            rw (candidate-is Nested limit g0 (componentsIn hs ws gs) (layoutIn rest) (length hs) (omega (arith, f .0)) o, ← f .0, ← f .1, ← eh, ← ee) er
+            rw (candidate-is (groups Nested) limit g0 true (componentsIn hs ws gs) (layoutIn rest) (length hs) (omega (arith, f .0)) o, ← f .0, ← f .1, ← eh, ← ee) er
 
 -- The first k components of longer columns.
 pub first-tried : (kind : Kind) (limit g0 k : ℕ) (hs : List ℕ) (group : List Component) (rest best r : Layout) → k ≤ length hs

@@ -5,3 +5,4 @@ pub mod Parts
 pub mod Answers
 pub mod Bools
 pub mod Lists
+pub mod Order

@@ -1,7 +1,7 @@
 -- The first group of a layout that three lists hold, and the rest.
-use Prim.Native.Nat.{ℕ, zero, suc, _+_, _-_, _*_, _≤_, _<_}
+use Prim.Native.Nat.{ℕ, _+_, _-_, _*_, _≤_, _<_}
 use mathlib.Core.Path.{_≡_, refl, sym, ap, _∙_}
-use mathlib.Core.List.{List, [], _∷_, _++_}
+use mathlib.Core.List.{List, _++_}
 use native.Mathlib.Omega.{arith}
 use lib.ListN.{length, getD, take, drop, length-drop, take-append-drop}
 use lib.Seq.{length-take-le, getD-drop, getD-append-add}
@@ -11,44 +11,37 @@ use Rattle.terms.proofs.Tabulate.{tabulate-same}
 use Rattle.terms.proofs.Lists.{AllSized}
 use Rattle.folding.specs.declared.Placement.{Placement}
 use Rattle.folding.specs.Placement.{placementAt, placementsOf}
+use Rattle.model.specs.Layout.{candidateFor}
+use Rattle.model.proofs.Scan.{layouts-drop, layouts-at}
+use Rattle.model.proofs.First.{restFor, FirstGroup, first-group}
 use Rattle.group.specs.Rows.{gap}
 use Rattle.group.specs.Group.{none, gapAfter, leastHeight, leastWidth, FoldPoint, groupPlaces}
 use Rattle.folding.specs.Placement.{flatOf}
 use Rattle.folding.proofs.Flat.{flat-length}
 use Rattle.group_trace.proofs.Flat.{placements-flat}
-use Rattle.layout.specs.Layout.{Layout, unmet, layouts, layoutOf}
+use Rattle.layout.specs.Layout.{Layout, unmet, groups, layouts, layoutOf}
 use Rattle.layout.specs.Plan.{PlannedAt, Planned}
-use Rattle.layout.proofs.Scan.{layouts-at}
 use Rattle.group.proofs.Exact.{least-reached}
+use Rattle.layout.proofs.Groups.{sized-parts}
 use Rattle.layout.proofs.Folds.{Folds, folds-join}
-use Rattle.layout.proofs.Reach.{sized-take, restOf, Chosen, chosen}
 use Rattle.trace.specs.Trace.{Met}
 use Rattle.group.proofs.Indices.{take-tabulate}
 use Rattle.layout.proofs.Columns.{tabulate-rest}
 
--- The best layouts behind k components are those of the rest.
-layouts-drop : (kind : Kind) (limit g0 : ℕ) (cs : List Component) (k : ℕ) → 0 < k → k ≤ length cs
-    → drop k (layouts kind limit g0 cs) ≡ layouts kind limit (gapAfter (take k cs)) (drop k cs)
-unfolding layouts gapAfter
-layouts-drop kind limit g0 cs zero p h = absurd (omega arith)
-layouts-drop kind limit g0 [] (suc k) p h = absurd (omega arith)
-layouts-drop kind limit g0 (x ∷ cs) (suc zero) p h = refl
-layouts-drop kind limit g0 (x ∷ []) (suc (suc k)) p h = absurd (omega arith)
-layouts-drop kind limit g0 (x ∷ y ∷ cs) (suc (suc k)) p h = layouts-drop kind limit (gap x) (y ∷ cs) (suc k) (omega arith) (omega arith)
-
+-- Behind the first group the lists hold the best layouts of the rest.
 planned-drop : (kind : Kind) (limit g0 : ℕ) (cs : List Component) (widths heights ends : List ℕ) (k : ℕ) → 0 < k → k ≤ length cs → Planned kind limit g0 cs widths heights ends
     → Planned kind limit (gapAfter (take k cs)) (drop k cs) (drop k widths) (drop k heights) (drop k ends)
 planned-drop kind limit g0 cs widths heights ends k p h s = record {
   at = λ j l.
       let q : PlannedAt (getD (layouts kind limit g0 cs) (k + j) unmet) (getD widths (k + j) 0) (getD heights (k + j) 0) (getD ends (k + j) 0) = s .at (k + j) (omega (arith, length-drop k cs)) in
-      rw (← layouts-drop kind limit g0 cs k p h, getD-drop k (layouts kind limit g0 cs) j unmet, getD-drop k widths j 0, getD-drop k heights j 0, getD-drop k ends j 0) q;
+      rw (← layouts-drop (λ x. gap x) (candidateFor (groups kind) limit) g0 cs k p h, getD-drop k (layouts kind limit g0 cs) j unmet, getD-drop k widths j 0, getD-drop k heights j 0, getD-drop k ends j 0) q;
 }
 
 -- The first group of a layout that the lists hold.
 module _ (kind : Kind) (limit g0 : ℕ) (cs : List Component) (widths heights ends : List ℕ) (some : 0 < length cs) (few : length cs ≤ 256) (s : AllSized cs)
     (m : Met kind limit g0 cs widths heights ends) where
-  is-chosen : Chosen kind limit g0 cs (layoutOf kind limit g0 cs)
-  is-chosen = chosen kind limit g0 cs some (m .met)
+  first : FirstGroup (groups kind) limit g0 cs (layoutOf kind limit g0 cs)
+  first = first-group (groups kind) limit g0 cs some (m .met)
 
   end-is : getD ends 0 0 ≡ layoutOf kind limit g0 cs .end
   end-is = m .planned .at 0 (omega arith) .end-is
@@ -57,7 +50,7 @@ module _ (kind : Kind) (limit g0 : ℕ) (cs : List Component) (widths heights en
   width-is = m .planned .at 0 (omega arith) .width-is
 
   pub end-bounds : (0 < getD ends 0 0) × (getD ends 0 0 ≤ length cs)
-  end-bounds = (omega (arith, end-is, is-chosen .some), omega (arith, end-is, is-chosen .within))
+  end-bounds = (omega (arith, end-is, first .some), omega (arith, end-is, first .within))
 
   module _ (k : ℕ) (e : k ≡ getD ends 0 0) where
     k-is : layoutOf kind limit g0 cs .end ≡ k
@@ -73,13 +66,13 @@ module _ (kind : Kind) (limit g0 : ℕ) (cs : List Component) (widths heights en
     group-long = length-take-le k cs k-within
 
     group-met : leastWidth kind g0 (take k cs) limit < none
-    group-met = rw k-is at (is-chosen .group-met)
+    group-met = rw k-is at (first .group-met)
 
-    rest-width : getD widths k 0 ≡ restOf kind limit cs k .width
-    rest-width = m .planned .at k k-within .width-is ∙ ap (λ (l : Layout). l .width) (layouts-at kind limit g0 cs k k-some k-within)
+    rest-width : getD widths k 0 ≡ restFor (groups kind) limit cs k .width
+    rest-width = m .planned .at k k-within .width-is ∙ ap (λ (l : Layout). l .width) (layouts-at (λ x. gap x) (candidateFor (groups kind) limit) g0 cs k k-some k-within)
 
     whole-width : getD widths 0 0 ≡ leastWidth kind g0 (take k cs) limit + getD widths k 0
-    whole-width = width-is ∙ rw k-is at (is-chosen .width) ∙ rw rest-width
+    whole-width = width-is ∙ rw k-is at (first .width) ∙ rw rest-width
 
     pub no-wider : getD widths k 0 ≤ getD widths 0 0
     no-wider = omega (arith, whole-width)
@@ -88,16 +81,16 @@ module _ (kind : Kind) (limit g0 : ℕ) (cs : List Component) (widths heights en
     cap-is = omega (arith, whole-width)
 
     pub rest-met : Met kind limit (gapAfter (take k cs)) (drop k cs) (drop k widths) (drop k heights) (drop k ends)
-    rest-met = record { planned = planned-drop kind limit g0 cs widths heights ends k k-some k-within (m .planned); met = rw k-is at (is-chosen .rest-met) }
+    rest-met = record { planned = planned-drop kind limit g0 cs widths heights ends k k-some k-within (m .planned); met = rw k-is at (first .rest-met) }
 
     pub joined : (group p : ℕ) (qs : List Placement) → FoldPoint kind g0 (take k cs) (getD widths 0 0 - getD widths k 0) p
-        → Folds kind (group + 1) (gapAfter (take k cs)) (drop k cs) qs (restOf kind limit cs k .width) (restOf kind limit cs k .height)
+        → Folds kind (group + 1) (gapAfter (take k cs)) (drop k cs) qs (restFor (groups kind) limit cs k .width) (restFor (groups kind) limit cs k .height)
         → Folds kind group g0 cs (groupPlaces (getD widths 0 0 - getD widths k 0) (take k cs) group p ++ qs) (layoutOf kind limit g0 cs .width) (layoutOf kind limit g0 cs .height)
     joined group p qs f r =
         let w = leastWidth kind g0 (take k cs) limit in
-        let g = least-reached kind g0 (take k cs) limit (omega (arith, group-long, k-some)) (omega (arith, group-long, k-within)) (sized-take k cs s) group-met group p (rw cap-is at f) in
+        let g = least-reached kind g0 (take k cs) limit (omega (arith, group-long, k-some)) (omega (arith, group-long, k-within)) (sized-parts (take k cs) (drop k cs) (rw (take-append-drop k cs) s) .0) group-met group p (rw cap-is at f) in
         let j = folds-join kind group g0 (take k cs) (groupPlaces w (take k cs) group p) w (leastHeight kind g0 (take k cs) w) (drop k cs) qs _ _ g r in
-        rw (cap-is, rw k-is at (is-chosen .width), rw k-is at (is-chosen .height)) (rw (take-append-drop k cs) at j)
+        rw (cap-is, rw k-is at (first .width), rw k-is at (first .height)) (rw (take-append-drop k cs) at j)
 
 -- Placements behind those of a group.
 placement-behind : (a b : List ℕ) (k i : ℕ) → length a ≡ 3 * k → placementAt (a ++ b) (k + i) ≡ placementAt b i

@@ -12,14 +12,16 @@ use Rattle.terms.proofs.Answers.{most-256}
 use Rattle.terms.proofs.Parts.{from, back}
 use Rattle.folding.specs.declared.Placement.{Placement}
 use Rattle.folding.specs.Placement.{placementsOf}
+use Rattle.group.specs.Rows.{gap}
 use Rattle.group.specs.Group.{FoldPoint, groupPlaces}
 use Rattle.group.specs.Table.{bare}
 use Rattle.folding.specs.Placement.{flatOf}
 use Rattle.group.proofs.Bare.{places-bare}
 use Rattle.folding.proofs.Flat.{flat-length}
 use Rattle.group.proofs.Exact.{places-length}
-use Rattle.layout.specs.Layout.{layoutOf}
-use Rattle.layout.proofs.Scan.{layout-empty}
+use Rattle.model.specs.Layout.{candidateFor}
+use Rattle.model.proofs.Scan.{layout-empty}
+use Rattle.layout.specs.Layout.{groups, layoutOf}
 use Rattle.layout.proofs.Folds.{Folds, folds-none}
 use Rattle.trace.specs.Trace.{GroupPut, FirstAsks, Met, TraceAsks, Traced}
 use Rattle.group.proofs.Gaps.{gap-behind}
@@ -161,5 +163,5 @@ module _ (kind : Kind) (group g0 : ℕ) (hs ws gs widths ends out work : List �
 -- Nothing is left.
 pub nothing : (kind : Kind) (group g0 : ℕ) (hs ws gs widths ends out : List ℕ) → length hs ≤ 0 → Traced kind group g0 (componentsIn hs ws gs) widths ends out out
 unfolding tabulate
-nothing kind group g0 [] ws gs widths ends out h = record { folds = λ limit heights m. rw (layout-empty kind limit g0) (folds-none kind group g0); beyond = refl; long = refl }
+nothing kind group g0 [] ws gs widths ends out h = record { folds = λ limit heights m. rw (layout-empty (λ x. gap x) (candidateFor (groups kind) limit) g0) (folds-none kind group g0); beyond = refl; long = refl }
 nothing kind group g0 (x ∷ hs) ws gs widths ends out h = absurd (omega arith)

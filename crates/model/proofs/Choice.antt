@@ -1,0 +1,86 @@
+-- Which of two layouts is chosen.
+use Prim.Native.Nat.{ℕ, _≤_, _<_}
+use mathlib.Core.Path.{_≡_, refl, sym, _∙_}
+use mathlib.Core.Logic.{_⊎_, inl, inr}
+use mathlib.Core.Bool.{Bool, true, false, _&&_, true≢false}
+use native.Mathlib.Omega.{arith}
+use lib.Dec.{ltb, eqb}
+use borrow.Author.Tests.{ltb-true, eqb-true, lt-ltb, eq-eqb, le-ltb, ne-eqb}
+use Rattle.terms.proofs.Bools.{both, one-of, or-left, or-right, and-is, either}
+use Rattle.terms.proofs.Order.{order}
+use Rattle.model.specs.Groups.{none}
+use Rattle.model.specs.Layout.{Layout, unmet, better, choice, NoWorse}
+
+pub no-wider : (b : Layout) (w h : ℕ) → NoWorse b w h → b .width ≤ w
+no-wider b w h (inl p) = omega arith
+no-wider b w h (inr p) = omega (arith, p .0)
+
+pub no-worse-trans : (b c : Layout) (w h : ℕ) → NoWorse b (c .width) (c .height) → NoWorse c w h → NoWorse b w h
+no-worse-trans b c w h (inl p) (inl q) = inl (omega arith)
+no-worse-trans b c w h (inl p) (inr q) = inl (omega (arith, q .0))
+no-worse-trans b c w h (inr p) (inl q) = inl (omega (arith, p .0))
+no-worse-trans b c w h (inr p) (inr q) = inr (p .0 ∙ q .0, omega (arith, p .1, q .1))
+
+better-true : (a b : Layout) → better a b ≡ true → NoWorse a (b .width) (b .height)
+better-true a b e = go (one-of (ltb (a .width) (b .width)) (eqb (a .width) (b .width) && ltb (a .height) (b .height)) e)
+  where
+    go : (ltb (a .width) (b .width) ≡ true) ⊎ ((eqb (a .width) (b .width) && ltb (a .height) (b .height)) ≡ true) → NoWorse a (b .width) (b .height)
+    go (inl p) = inl (ltb-true _ _ p)
+    go (inr p) =
+        let q = both (eqb (a .width) (b .width)) (ltb (a .height) (b .height)) p in
+        let l : a .height < b .height = ltb-true _ _ (q .1) in
+        inr (eqb-true _ _ (q .0), omega arith)
+
+better-false : (a b : Layout) → better a b ≡ false → NoWorse b (a .width) (a .height)
+better-false a b e = go (order (b .width) (a .width)) (order (a .width) (b .width)) (order (b .height) (a .height))
+  where
+    go : (b .width ≤ a .width) ⊎ (a .width < b .width) → (a .width ≤ b .width) ⊎ (b .width < a .width) → (b .height ≤ a .height) ⊎ (a .height < b .height)
+        → NoWorse b (a .width) (a .height)
+    go (inr p) q r = absurd (true≢false (sym (or-left _ (lt-ltb (a .width) (b .width) p)) ∙ e))
+    go (inl p) (inr q) r = inl q
+    go (inl p) (inl q) (inl r) = inr (omega arith, r)
+    go (inl p) (inl q) (inr r) =
+        absurd (true≢false (sym (or-right (ltb (a .width) (b .width)) (and-is (eq-eqb (a .width) (b .width) (omega arith)) (lt-ltb (a .height) (b .height) r))) ∙ e))
+
+not-better : (a b : Layout) → NoWorse b (a .width) (a .height) → better a b ≡ false
+not-better a b (inl p) = rw (le-ltb (a .width) (b .width) (omega arith), ne-eqb (a .width) (b .width) (λ e. omega arith))
+not-better a b (inr p) = rw (le-ltb (a .width) (b .width) (omega (arith, p .0)), le-ltb (a .height) (b .height) (p .1)) (and-none (eqb (a .width) (b .width)))
+  where
+    and-none : (c : Bool) → (c && false) ≡ false
+    and-none true = refl
+    and-none false = refl
+
+-- The chosen one is one of the two, and no worse than either.
+pub choice-first : (a b : Layout) → better a b ≡ true → choice a b ≡ a
+choice-first a b e = rw e
+
+pub choice-second : (a b : Layout) → better a b ≡ false → choice a b ≡ b
+choice-second a b e = rw e
+
+pub choice-no-worse-first : (a b : Layout) → NoWorse (choice a b) (a .width) (a .height)
+choice-no-worse-first a b = go (either (better a b))
+  where
+    go : (better a b ≡ true) ⊎ (better a b ≡ false) → NoWorse (choice a b) (a .width) (a .height)
+    go (inl e) = rw (choice-first a b e) (inr (refl, omega arith))
+    go (inr e) = rw (choice-second a b e) (better-false a b e)
+
+pub choice-no-worse-second : (a b : Layout) → NoWorse (choice a b) (b .width) (b .height)
+choice-no-worse-second a b = go (either (better a b))
+  where
+    go : (better a b ≡ true) ⊎ (better a b ≡ false) → NoWorse (choice a b) (b .width) (b .height)
+    go (inl e) = rw (choice-first a b e) (better-true a b e)
+    go (inr e) = rw (choice-second a b e) (inr (refl, omega arith))
+
+-- The second is kept unless the first is better.
+pub choice-keeps : (a b : Layout) → NoWorse b (a .width) (a .height) → choice a b ≡ b
+choice-keeps a b n = choice-second a b (not-better a b n)
+
+-- All that a scan gives is no worse than none.
+abbrev pub Fair : Layout → Type 0
+Fair b = NoWorse b none none
+
+pub fair-choice : (a b : Layout) → Fair b → Fair (choice a b)
+fair-choice a b f = no-worse-trans (choice a b) b none none (choice-no-worse-second a b) f
+
+pub choice-unmet : (b : Layout) → Fair b → choice unmet b ≡ b
+choice-unmet b f = choice-keeps unmet b f

@@ -1,0 +1,11 @@
+pub mod Choice
+pub mod Scan
+pub mod Recurrence
+pub mod Candidates
+pub mod First
+pub mod Layouts
+pub mod Transfer
+pub mod Best
+pub mod Table
+pub mod Fuel
+pub mod Example

@@ -1,0 +1,6 @@
+pub mod Groups
+pub mod Layout
+pub mod Laws
+pub mod Outlines
+pub mod Search
+pub mod Example
