@@ -19,6 +19,7 @@ groups kind = record {
   height = λ limit g0 last cs. leastHeight kind g0 cs (leastWidth kind g0 cs limit);
 }
 
+-- The parts of the recurrence, by the kind. What is said of a candidate holds wherever its group stands.
 abbrev pub candidate : Kind → ℕ → ℕ → List Component → Layout → ℕ → Layout
 candidate kind limit g0 group rest k = candidateFor (groups kind) limit g0 true group rest k
 
