@@ -12,7 +12,8 @@ use Rattle.folding.specs.Outline.{outlineOf}
 use Rattle.folding.specs.Best.{BestForHeight, BestForWidth}
 use Rattle.folding.proofs.Rules.{legal-is, legal-of}
 use Rattle.model.specs.Groups.{none}
-use Rattle.model.proofs.Best.{outlineBy, Below, others-wider, others-higher}
+use Rattle.model.specs.Outlines.{outlineBy}
+use Rattle.model.proofs.Best.{Below, others-wider, others-higher}
 use Rattle.layout.specs.Layout.{Layout, layoutOf}
 use Rattle.layout.proofs.Groups.{Stacked}
 use Rattle.layout.proofs.Folds.{Folds}

@@ -1,7 +1,7 @@
 -- Apart and nested groups keep the laws of a model.
 use Prim.Native.Nat.{ℕ, _*_, _≤_, _<_}
 use mathlib.Core.Path.{_≡_, sym, ap, _∙_, subst}
-use mathlib.Core.Logic.{_⊎_, inl, inr}
+use mathlib.Core.Logic.{_⊎_}
 use mathlib.Core.List.{List, [], _∷_, _++_}
 use native.Mathlib.Omega.{arith}
 use lib.ListN.{length, length-append}
@@ -9,12 +9,12 @@ use Rattle.terms.specs.Numbers.{mostSize, mostApart, mostLimit}
 use Rattle.terms.specs.declared.Component.{Component}
 use Rattle.terms.specs.declared.Kind.{Kind}
 use Rattle.terms.proofs.Lists.{AllSized}
-use Rattle.terms.proofs.Order.{order}
 use Rattle.folding.specs.declared.Placed.{Placed}
 use Rattle.folding.specs.declared.Placement.{Placement}
 use Rattle.folding.specs.Outline.{groupWidth, groupHeight}
 use Rattle.model.specs.Groups.{gapBehind, Rule}
 use Rattle.model.specs.Laws.{Laws}
+use Rattle.model.proofs.Choice.{no-wider-nor-higher}
 use Rattle.group.specs.Group.{gapAfter, leastHeight, leastWidth, groupPlaces}
 use Rattle.group.proofs.Lower.{componentsOf}
 use Rattle.group.proofs.Laws.{lower, least-width, components-placed}
@@ -100,14 +100,7 @@ module _ (kind : Kind) (m g0 : ℕ) (cs : List Component) (ps : List Placement) 
 
     nothing-better : (limit : ℕ) → h ≤ limit
         → (leastWidth kind g0 cs limit < w) ⊎ ((leastWidth kind g0 cs limit ≡ w) × (leastHeight kind g0 cs (leastWidth kind g0 cs limit) ≤ h))
-    nothing-better limit k = go (order w (leastWidth kind g0 cs limit))
-      where
-        go : (w ≤ leastWidth kind g0 cs limit) ⊎ (leastWidth kind g0 cs limit < w)
-            → (leastWidth kind g0 cs limit < w) ⊎ ((leastWidth kind g0 cs limit ≡ w) × (leastHeight kind g0 cs (leastWidth kind g0 cs limit) ≤ h))
-        go (inr o) = inl o
-        go (inl o) =
-            let e : leastWidth kind g0 cs limit ≡ w = omega (arith, no-narrower limit k) in
-            inr (e, subst (λ (v : ℕ). leastHeight kind g0 cs v ≤ h) (sym e) at-least)
+    nothing-better limit k = no-wider-nor-higher (no-narrower limit k) (λ e. subst (λ (v : ℕ). leastHeight kind g0 cs v ≤ h) (sym e) at-least)
 
 pub groups-laws : (kind : Kind) → Laws (groups kind) Good (legalGroup kind)
 groups-laws kind = record {

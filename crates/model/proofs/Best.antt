@@ -9,13 +9,9 @@ use Rattle.folding.specs.declared.Outline.{Outline}
 use Rattle.folding.specs.Best.{Wider, Higher}
 use Rattle.model.specs.Groups.{none}
 use Rattle.model.specs.Layout.{Layout}
-use Rattle.model.specs.Outlines.{outline}
+use Rattle.model.specs.Outlines.{outlineBy}
 use Rattle.model.specs.Search.{Search}
 use Rattle.model.proofs.Choice.{no-wider}
-
--- The outline of a layout.
-abbrev pub outlineBy : Layout → Outline
-outlineBy b = outline (b .width) (b .height)
 
 -- Nothing one below the height `lim` is within the width w. That is what halving keeps of its lower bound.
 abbrev pub Below : (ℕ → Layout) → ℕ → ℕ → Type 0
@@ -53,7 +49,7 @@ module _ {F : Type 0} {Legal : F → Type 0} {outlineOf : F → Outline} {best :
         go (inr h) =
             let o : w < best (lim - 1) .width = least (lim - 1) (omega arith) in
             let e = s .every (lim - 1) f l (omega arith) in
-            absurd (omega (arith, no-wider (best (lim - 1)) _ _ (e .0)))
+            absurd (omega (arith, no-wider (e .0)))
 
     pub others-higher : best lim .width < none → (other : F) → Legal other → outlineOf other .width .0 ≤ w → Higher (outlineBy (best lim)) (outlineOf other)
     others-higher m other l k = go (order (outlineOf other .height .0) lim) (order (outlineOf other .height .0) (best lim .height))
@@ -77,7 +73,7 @@ module _ {F : Type 0} {Legal : F → Type 0} {outlineOf : F → Outline} {best :
   pub unmeetable-width : (w : ℕ) → w < best mostLimit .width → (f : F) → Legal f → outlineOf f .width .0 ≤ w → ⊥
   unmeetable-width w n f l k =
       let e = s .every mostLimit f l (s .low f l) in
-      absurd (omega (arith, no-wider (best mostLimit) _ _ (e .0)))
+      absurd (omega (arith, no-wider (e .0)))
 
   -- A layout's own height is limit enough for its width.
   pub own-height : (lim : ℕ) → best lim .width < none → best (best lim .height) .width ≤ best lim .width
@@ -85,4 +81,4 @@ module _ {F : Type 0} {Legal : F → Type 0} {outlineOf : F → Outline} {best :
       let r = s .some lim m in
       let h = best lim .height in
       let k : outlineOf (r .0) .height .0 ≤ h = rw (r .2) (omega arith) in
-      rw (r .2) at (no-wider (best h) _ _ (s .every h (r .0) (r .1) k .0))
+      rw (r .2) at (no-wider (s .every h (r .0) (r .1) k .0))

@@ -1,5 +1,5 @@
 -- Candidates of a model: what they are, and which need not be looked at, since they would not be chosen.
-use Prim.Native.Nat.{ℕ, _+_, _≤_, _<_, max}
+use Prim.Native.Nat.{ℕ, _+_, _≤_, _<_}
 use mathlib.Core.Path.{_≡_, refl}
 use mathlib.Core.Logic.{_⊎_, inl, inr}
 use mathlib.Core.List.{List}
@@ -7,40 +7,33 @@ use mathlib.Core.Bool.{Bool, true, false, cond, _&&_}
 use native.Mathlib.Omega.{arith}
 use lib.Dec.{ltb}
 use borrow.Author.Tests.{lt-ltb, le-ltb, ltb-true}
-use Rattle.terms.proofs.Bools.{both, either}
 use Rattle.terms.proofs.Order.{order}
 use Rattle.model.specs.Groups.{none, Model}
-use Rattle.model.specs.Layout.{Layout, unmet, choice, candidateFor}
-use Rattle.model.proofs.Choice.{choice-keeps, Fair, choice-unmet}
+use Rattle.model.specs.Layout.{Layout, unmet, choice, joinedFor, candidateFor}
+use Rattle.model.proofs.Choice.{and-none, choice-keeps, Fair, choice-unmet}
+
+-- What is met only if two tests are, is met: both are.
+pub met-both : (a b : Bool) (x : Layout) → cond (a && b) x unmet .width < none → (a ≡ true) × (b ≡ true)
+met-both true true x h = (refl, refl)
+met-both true false x h = absurd (omega arith)
+met-both false b x h = absurd (omega arith)
 
 module _ {C : Type 0} (model : Model C) (limit g0 : ℕ) (last : Bool) (group : List C) (rest : Layout) (k : ℕ) where
   abbrev width : ℕ
   width = model .width limit g0 last group
 
-  -- The candidate of a group that keeps the limit in front of a rest that does.
-  abbrev pub joinedLayout : Layout
-  joinedLayout = record { width = width + rest .width; height = max (model .height limit g0 last group) (rest .height); end = k }
-
-  pub candidate-is : width < none → rest .width < none → candidateFor model limit g0 last group rest k ≡ joinedLayout
+  -- A group that keeps the limit, in front of a rest that does; and one that does not, or in front of a rest that does not.
+  pub candidate-is : width < none → rest .width < none → candidateFor model limit g0 last group rest k ≡ joinedFor model limit g0 last group rest k
   candidate-is p q = rw (lt-ltb width none p, lt-ltb (rest .width) none q)
 
   pub candidate-met : candidateFor model limit g0 last group rest k .width < none → (width < none) × (rest .width < none)
-  candidate-met = go (either (ltb width none && ltb (rest .width) none))
-    where
-      go : ((ltb width none && ltb (rest .width) none) ≡ true) ⊎ ((ltb width none && ltb (rest .width) none) ≡ false)
-          → candidateFor model limit g0 last group rest k .width < none → (width < none) × (rest .width < none)
-      go (inl e) h = let b = both (ltb width none) (ltb (rest .width) none) e in (ltb-true _ _ (b .0), ltb-true _ _ (b .1))
-      go (inr e) h = absurd (omega (arith, rw e at h))
+  candidate-met h = let b = met-both (ltb width none) (ltb (rest .width) none) _ h in (ltb-true _ _ (b .0), ltb-true _ _ (b .1))
 
   pub group-unmet : none ≤ width → candidateFor model limit g0 last group rest k ≡ unmet
   group-unmet h = rw (le-ltb width none h)
 
   rest-unmet : none ≤ rest .width → candidateFor model limit g0 last group rest k ≡ unmet
-  rest-unmet h = rw (le-ltb (rest .width) none h) (go (ltb width none))
-    where
-      go : (b : Bool) → cond (b && false) joinedLayout unmet ≡ unmet
-      go true = refl
-      go false = refl
+  rest-unmet h = rw (le-ltb (rest .width) none h, and-none (ltb width none))
 
   module _ (b : Layout) (f : Fair b) where
     pub skip-group : none ≤ width → choice (candidateFor model limit g0 last group rest k) b ≡ b
@@ -56,7 +49,7 @@ module _ {C : Type 0} (model : Model C) (limit g0 : ℕ) (last : Bool) (group : 
         go : (none ≤ width) ⊎ (width < none) → (none ≤ rest .width) ⊎ (rest .width < none) → choice (candidateFor model limit g0 last group rest k) b ≡ b
         go (inl p) q = skip-group p
         go (inr p) (inl q) = skip-rest q
-        go (inr p) (inr q) = rw (candidate-is p q) (choice-keeps joinedLayout b (inl (h p)))
+        go (inr p) (inr q) = rw (candidate-is p q) (choice-keeps (joinedFor model limit g0 last group rest k) b (inl (h p)))
 
     -- The group does not keep the limit within the cap that what is in hand leaves it.
     pub skip-cap : (cap : ℕ) → b .width ≤ cap + rest .width → cap < width → choice (candidateFor model limit g0 last group rest k) b ≡ b

@@ -11,9 +11,17 @@ use Rattle.terms.proofs.Order.{order}
 use Rattle.model.specs.Groups.{none}
 use Rattle.model.specs.Layout.{Layout, unmet, better, choice, NoWorse}
 
-pub no-wider : (b : Layout) (w h : ℕ) → NoWorse b w h → b .width ≤ w
-no-wider b w h (inl p) = omega arith
-no-wider b w h (inr p) = omega (arith, p .0)
+-- What is no worse is no wider; and what is no wider is no worse, if it is no higher where it is as wide.
+pub no-wider : {a b w h : ℕ} → (a < w) ⊎ ((a ≡ w) × (b ≤ h)) → a ≤ w
+no-wider (inl p) = omega arith
+no-wider (inr p) = omega (arith, p .0)
+
+pub no-wider-nor-higher : {a b w h : ℕ} → a ≤ w → (a ≡ w → b ≤ h) → (a < w) ⊎ ((a ≡ w) × (b ≤ h))
+no-wider-nor-higher {a} {b} {w} {h} p q = go (order w a)
+  where
+    go : (w ≤ a) ⊎ (a < w) → (a < w) ⊎ ((a ≡ w) × (b ≤ h))
+    go (inl o) = let e : a ≡ w = omega arith in inr (e, q e)
+    go (inr o) = inl o
 
 pub no-worse-trans : (b c : Layout) (w h : ℕ) → NoWorse b (c .width) (c .height) → NoWorse c w h → NoWorse b w h
 no-worse-trans b c w h (inl p) (inl q) = inl (omega arith)
@@ -42,13 +50,13 @@ better-false a b e = go (order (b .width) (a .width)) (order (a .width) (b .widt
     go (inl p) (inl q) (inr r) =
         absurd (true≢false (sym (or-right (ltb (a .width) (b .width)) (and-is (eq-eqb (a .width) (b .width) (omega arith)) (lt-ltb (a .height) (b .height) r))) ∙ e))
 
+pub and-none : (c : Bool) → (c && false) ≡ false
+and-none true = refl
+and-none false = refl
+
 not-better : (a b : Layout) → NoWorse b (a .width) (a .height) → better a b ≡ false
 not-better a b (inl p) = rw (le-ltb (a .width) (b .width) (omega arith), ne-eqb (a .width) (b .width) (λ e. omega arith))
 not-better a b (inr p) = rw (le-ltb (a .width) (b .width) (omega (arith, p .0)), le-ltb (a .height) (b .height) (p .1)) (and-none (eqb (a .width) (b .width)))
-  where
-    and-none : (c : Bool) → (c && false) ≡ false
-    and-none true = refl
-    and-none false = refl
 
 -- The chosen one is one of the two, and no worse than either.
 pub choice-first : (a b : Layout) → better a b ≡ true → choice a b ≡ a

@@ -9,9 +9,12 @@ use lib.ListN.{length, length-append}
 use lib.Dec.{leb}
 use borrow.Author.Tests.{le-leb, leb-true}
 use Rattle.terms.proofs.Bools.{both}
-use Rattle.model.specs.Groups.{none, gapBehind}
+use Rattle.model.specs.Groups.{none, gapBehind, widthOf, heightOf, LayoutOf}
 use Rattle.model.specs.Layout.{unmet, scanBy, layoutsBy, layoutFor}
 use Rattle.model.specs.Laws.{Laws}
+use Rattle.model.specs.Outlines.{outline}
+use Rattle.model.specs.Search.{Search}
+use Rattle.model.proofs.Layouts.{layouts-search}
 use Rattle.model.specs.Example.{mayStand, pairs, Few, Pair}
 
 no-gap : (cs : List ℕ) → gapBehind {C = ℕ} (λ x. 0) cs ≤ 4000
@@ -48,6 +51,10 @@ pairs-laws = record {
       (p, b .0, width-met last cs limit (b .0) (b .1), refl);
   keeps = λ g0 last cs limit h. omega (arith, met-both last cs limit h .1);
 }
+
+-- So the recurrence finds the best of all layouts of them.
+pub pairs-search : (cs : List ℕ) → 0 < length cs → Few cs → Search (LayoutOf (λ x. 0) Pair cs) (λ gs. outline (widthOf gs) (heightOf gs)) (λ limit. layoutFor pairs limit 0 cs)
+pairs-search = layouts-search pairs-laws
 
 -- Within one row two components would have to stand one by one, and the first is not the last.
 two-in-one-row : layoutFor pairs 1 0 (0 ∷ 0 ∷ []) ≡ unmet

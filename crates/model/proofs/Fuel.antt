@@ -9,9 +9,9 @@ use Rattle.terms.proofs.Order.{order}
 use Rattle.folding.specs.declared.Outline.{Outline}
 use Rattle.model.specs.Groups.{none}
 use Rattle.model.specs.Layout.{Layout}
-use Rattle.model.specs.Outlines.{outlinesBy}
+use Rattle.model.specs.Outlines.{outlineBy, outlinesBy}
 use Rattle.model.specs.Search.{Search}
-use Rattle.model.proofs.Best.{outlineBy, layout-high}
+use Rattle.model.proofs.Best.{layout-high}
 use Rattle.model.proofs.Table.{outlines-on, outlines-end}
 
 module _ {F : Type 0} {Legal : F → Type 0} {outlineOf : F → Outline} {best : ℕ → Layout} (s : Search Legal outlineOf best) where

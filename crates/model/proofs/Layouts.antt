@@ -10,18 +10,18 @@ use lib.ListN.{length, take, drop, length-append, take-append-drop}
 use lib.Seq.{length-take-le}
 use Rattle.terms.specs.Numbers.{mostSize, mostLimit}
 use Rattle.model.specs.Groups.{none, isEnd, gapBehind, Model, Rule, Group, membersOf, widthOf, heightOf, Stands, LayoutOf}
-use Rattle.model.specs.Layout.{Layout, NoWorse, layoutsBy, candidateFor, layoutFor}
+use Rattle.model.specs.Layout.{Layout, NoWorse, layoutsBy, joinedFor, candidateFor, layoutFor}
 use Rattle.model.specs.Laws.{Laws}
 use Rattle.model.specs.Outlines.{outline}
 use Rattle.model.specs.Search.{Search}
 use Rattle.model.proofs.Choice.{no-wider, no-worse-trans}
-use Rattle.model.proofs.Recurrence.{restOf, inFront, front-no-worse, every-layout}
-use Rattle.model.proofs.Candidates.{joinedLayout, candidate-is, candidate-met}
+use Rattle.model.proofs.Recurrence.{restOf, front-no-worse, Extends, every-layout}
+use Rattle.model.proofs.Candidates.{candidate-is, candidate-met}
 
 -- A first group in front of a rest of which it holds already.
 joined-no-worse : {C : Type 0} (model : Model C) (limit g0 : ℕ) (last : Bool) (group : List C) (rest : Layout) (k w h w′ h′ : ℕ)
     → (model .width limit g0 last group < w) ⊎ ((model .width limit g0 last group ≡ w) × (model .height limit g0 last group ≤ h)) → NoWorse rest w′ h′
-    → NoWorse (joinedLayout model limit g0 last group rest k) (w + w′) (max h h′)
+    → NoWorse (joinedFor model limit g0 last group rest k) (w + w′) (max h h′)
 joined-no-worse model limit g0 last group rest k w h w′ h′ (inl p) (inl r) = inl (omega arith)
 joined-no-worse model limit g0 last group rest k w h w′ h′ (inl p) (inr r) = inl (omega (arith, r .0))
 joined-no-worse model limit g0 last group rest k w h w′ h′ (inr p) (inl r) = inl (omega (arith, p .0))
@@ -32,7 +32,7 @@ module _ {C : Type 0} {model : Model C} {Good : List C → Type 0} {Allowed : Ru
   Standing m g0 gs = Stands (model .gap) Allowed m g0 gs
 
   -- How wide and how high a layout can be.
-  slim : (m g0 : ℕ) (gs : List (Group C)) → Good (membersOf gs) → Standing m g0 gs → widthOf gs ≤ mostSize * length (membersOf gs)
+  pub slim : (m g0 : ℕ) (gs : List (Group C)) → Good (membersOf gs) → Standing m g0 gs → widthOf gs ≤ mostSize * length (membersOf gs)
   slim m g0 [] s l = omega arith
   slim m g0 (g ∷ gs) s l =
       let d = laws .parts (g .members) (membersOf gs) s in
@@ -43,7 +43,7 @@ module _ {C : Type 0} {model : Model C} {Good : List C → Type 0} {Allowed : Ru
         slim (m + 1) (gapBehind (model .gap) (g .members)) gs (d .1) (l .1),
       )
 
-  low : (m g0 : ℕ) (gs : List (Group C)) → g0 ≤ mostSize → Good (membersOf gs) → Standing m g0 gs → heightOf gs ≤ mostLimit
+  pub low : (m g0 : ℕ) (gs : List (Group C)) → g0 ≤ mostSize → Good (membersOf gs) → Standing m g0 gs → heightOf gs ≤ mostLimit
   low m g0 [] n s l = omega arith
   low m g0 (g ∷ gs) n s l =
       let d = laws .parts (g .members) (membersOf gs) s in
@@ -53,7 +53,7 @@ module _ {C : Type 0} {model : Model C} {Good : List C → Type 0} {Allowed : Ru
         low (m + 1) (gapBehind (model .gap) (g .members)) gs (laws .near (g .members) (d .0)) (d .1) (l .1),
       )
 
-  high : (m g0 : ℕ) (gs : List (Group C)) → 0 < length (membersOf gs) → Good (membersOf gs) → Standing m g0 gs → 0 < heightOf gs
+  pub high : (m g0 : ℕ) (gs : List (Group C)) → 0 < length (membersOf gs) → Good (membersOf gs) → Standing m g0 gs → 0 < heightOf gs
   high m g0 [] n s l = absurd (omega arith)
   high m g0 (g ∷ gs) n s l = omega (arith, laws .high m g0 _ (g .members) (g .width) (g .height) (laws .parts (g .members) (membersOf gs) s .0) (l .0))
 
@@ -69,10 +69,9 @@ module _ {C : Type 0} {model : Model C} {Good : List C → Type 0} {Allowed : Ru
         let few = laws .few (gs ++ cs) s in
         let n = length-append gs cs in
         let b = laws .no-better m g0 last gs w h (d .0) a limit k in
-        let here : Layout = record { width = model .width limit g0 last gs; height = model .height limit g0 last gs; end = 0 } in
-        let met : model .width limit g0 last gs < none = omega (arith, no-wider here w h b, laws .slim m g0 last gs w h (d .0) a) in
-        let rest-met : rest .width < none = omega (arith, no-wider rest w′ h′ i) in
-        no-worse-trans (layoutFor model limit g0 (gs ++ cs)) (joinedLayout model limit g0 last gs rest (length gs)) (w + w′) (max h h′)
+        let met : model .width limit g0 last gs < none = omega (arith, no-wider b, laws .slim m g0 last gs w h (d .0) a) in
+        let rest-met : rest .width < none = omega (arith, no-wider i) in
+        no-worse-trans (layoutFor model limit g0 (gs ++ cs)) (joinedFor model limit g0 last gs rest (length gs)) (w + w′) (max h h′)
         (rw (candidate-is model limit g0 last gs rest (length gs) met rest-met) at (front-no-worse (model .gap) (candidateFor model limit) g0 gs cs (laws .some m g0 last gs w h a)))
         (joined-no-worse model limit g0 last gs rest (length gs) w h w′ h′ b i)
 
@@ -96,9 +95,7 @@ module _ {C : Type 0} {model : Model C} {Good : List C → Type 0} {Allowed : Ru
       pub height : heightOf groups ≡ b .height
       pub keeps : heightOf groups ≤ limit
 
-    reach-step : (m g0 : ℕ) (cs : List C) (k : ℕ) → 0 < k → k ≤ length cs → inFront (model .gap) (candidateFor model limit) g0 cs k .width < none
-        → (restOf (model .gap) (candidateFor model limit) cs k .width < none → Good (drop k cs) → Reached (m + 1) (gapBehind (model .gap) (take k cs)) (drop k cs) (restOf (model .gap) (candidateFor model limit) cs k))
-        → Good cs → Reached m g0 cs (inFront (model .gap) (candidateFor model limit) g0 cs k)
+    reach-step : Extends (model .gap) (candidateFor model limit) (λ m g0 cs b. Good cs → Reached m g0 cs b)
     reach-step m g0 cs k p n h i s =
         let gs = take k cs in
         let last = isEnd (drop k cs) in
@@ -127,7 +124,7 @@ module _ {C : Type 0} {model : Model C} {Good : List C → Type 0} {Allowed : Ru
     every = λ limit gs l h.
         let good : Good (membersOf gs) = rw (l .holds) s in
         let b = rw (l .holds) at (nothing-better limit 0 0 gs good (l .stands) h) in
-        (b, omega (arith, no-wider (layoutFor model limit 0 cs) _ _ b, slim 0 0 gs good (l .stands), laws .few (membersOf gs) good));
+        (b, omega (arith, no-wider b, slim 0 0 gs good (l .stands), laws .few (membersOf gs) good));
     some = λ limit m. let r = reach limit 0 0 cs s m in (r .groups, record { stands = r .stands; holds = r .holds }, rw (r .width, r .height));
     keeps = λ limit m. let r = reach limit 0 0 cs s m in omega (arith, r .height, r .keeps);
     high = λ gs l. high 0 0 gs (rw (l .holds) some) (rw (l .holds) s) (l .stands);

@@ -11,7 +11,7 @@ use Rattle.model.specs.Layout.{Layout, empty, NoWorse, Step, layoutsBy, 
 use Rattle.model.proofs.Scan.{scan-no-worse, scan-met, layout-empty, later-at}
 
 module _ {C : Type 0} (gap : C → ℕ) (step : Step C) where
-  -- A group in front of the best layout of the rest; k is the number of its components.
+  -- A group in front of the best layout of the rest; k is the number of the group's components.
   abbrev pub front : ℕ → List C → List C → ℕ → Layout
   front g0 gs cs k = step g0 (isEnd cs) gs (layoutBy gap step (gapBehind gap gs) cs) k
 
@@ -19,11 +19,11 @@ module _ {C : Type 0} (gap : C → ℕ) (step : Step C) where
   abbrev pub restOf : List C → ℕ → Layout
   restOf cs k = layoutBy gap step (gapBehind gap (take k cs)) (drop k cs)
 
-  abbrev pub inFront : ℕ → List C → ℕ → Layout
-  inFront g0 cs k = front g0 (take k cs) (drop k cs) k
+  abbrev pub frontAt : ℕ → List C → ℕ → Layout
+  frontAt g0 cs k = front g0 (take k cs) (drop k cs) k
 
   end-no-worse : (g0 : ℕ) (x : C) (cs : List C) (k : ℕ) → k ≤ length cs
-      → NoWorse (layoutBy gap step g0 (x ∷ cs)) (inFront g0 (x ∷ cs) (suc k) .width) (inFront g0 (x ∷ cs) (suc k) .height)
+      → NoWorse (layoutBy gap step g0 (x ∷ cs)) (frontAt g0 (x ∷ cs) (suc k) .width) (frontAt g0 (x ∷ cs) (suc k) .height)
   unfolding layoutsBy
   end-no-worse g0 x cs k h =
       let at : Layout → Layout = λ rest. step g0 (isEnd (drop (suc k) (x ∷ cs))) (take (suc k) (x ∷ cs)) rest (suc k) in
@@ -41,12 +41,12 @@ module _ {C : Type 0} (gap : C → ℕ) (step : Step C) where
       (same-front g0 (suc (length gs)) _ (x ∷ gs) _ cs (take-append-seam (x ∷ gs) cs) (drop-append-seam (x ∷ gs) cs))
       (end-no-worse g0 x (gs ++ cs) (length gs) (omega (arith, length-append gs cs)))
 
-  -- The first group of a layout that keeps the limit.
+  -- The first group of the best layout, where there is one.
   pub record Chosen (g0 : ℕ) (cs : List C) : Type 0 where
     pub end : ℕ
     pub some : 0 < end
     pub within : end ≤ length cs
-    pub is : layoutBy gap step g0 cs ≡ inFront g0 cs end
+    pub is : layoutBy gap step g0 cs ≡ frontAt g0 cs end
 
   pub chosen : (g0 : ℕ) (cs : List C) → 0 < length cs → layoutBy gap step g0 cs .width < none → Chosen g0 cs
   unfolding layoutsBy
@@ -61,11 +61,14 @@ module _ {C : Type 0} (gap : C → ℕ) (step : Step C) where
         is = r .2 ∙ ap (λ (rest : Layout). step g0 (isEnd (drop k cs)) (x ∷ take k cs) rest (suc k)) (later-at gap step x cs k (omega (arith, r .1)));
       }
 
-  -- What holds of nothing, and of a first group in front of a rest of which it holds, holds of every layout that keeps the
-  -- limit. m counts groups.
-  module _ (P : ℕ → ℕ → List C → Layout → Type 0) (none-left : (m g0 : ℕ) → P m g0 [] empty)
-      (one-more : (m g0 : ℕ) (cs : List C) (k : ℕ) → 0 < k → k ≤ length cs → inFront g0 cs k .width < none
-      → (restOf cs k .width < none → P (m + 1) (gapBehind gap (take k cs)) (drop k cs) (restOf cs k)) → P m g0 cs (inFront g0 cs k)) where
+  -- P goes from the rest to a first group in front of it. m counts groups.
+  abbrev pub Extends : (ℕ → ℕ → List C → Layout → Type 0) → Type 0
+  Extends P = (m g0 : ℕ) (cs : List C) (k : ℕ) → 0 < k → k ≤ length cs → frontAt g0 cs k .width < none
+      → (restOf cs k .width < none → P (m + 1) (gapBehind gap (take k cs)) (drop k cs) (restOf cs k)) → P m g0 cs (frontAt g0 cs k)
+
+  -- What holds of nothing, and of a first group in front of a rest of which it holds, holds of the best layout, where
+  -- there is one.
+  module _ (P : ℕ → ℕ → List C → Layout → Type 0) (none-left : (m g0 : ℕ) → P m g0 [] empty) (one-more : Extends P) where
     every-in : (n m g0 : ℕ) (cs : List C) → length cs ≤ n → layoutBy gap step g0 cs .width < none → P m g0 cs (layoutBy gap step g0 cs)
     every-in zero m g0 [] d h = rw (layout-empty gap step g0) (none-left m g0)
     every-in zero m g0 (x ∷ cs) d h = absurd (omega arith)

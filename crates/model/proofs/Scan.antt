@@ -13,8 +13,9 @@ use Rattle.model.specs.Groups.{none, isEnd, gapBehind}
 use Rattle.model.specs.Layout.{Layout, unmet, empty, better, choice, NoWorse, Step, scanBy, layoutsBy, layoutBy}
 use Rattle.model.proofs.Choice.{no-worse-trans, choice-first, choice-second, choice-no-worse-first, choice-no-worse-second, Fair, fair-choice}
 
--- No worse than any candidate, and one of them where it keeps the limit.
+-- No worse than any candidate, and one of them where there is one.
 module _ {C : Type 0} (step : Step C) (g0 : ℕ) (cs : List C) (later : List Layout) where
+  -- The candidate with k + 1 components in the first group.
   abbrev pub candidateAt : ℕ → Layout
   candidateAt k = step g0 (isEnd (drop (suc k) cs)) (take (suc k) cs) (getD later k unmet) (suc k)
 

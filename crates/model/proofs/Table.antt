@@ -11,9 +11,9 @@ use Rattle.folding.specs.declared.Outline.{Outline}
 use Rattle.folding.specs.Best.{Among, Rising, Other}
 use Rattle.model.specs.Groups.{none}
 use Rattle.model.specs.Layout.{Layout, NoWorse}
-use Rattle.model.specs.Outlines.{outlinesBy}
+use Rattle.model.specs.Outlines.{outlineBy, outlinesBy}
 use Rattle.model.specs.Search.{Search}
-use Rattle.model.proofs.Best.{outlineBy, layout-high}
+use Rattle.model.proofs.Best.{layout-high}
 
 -- The clauses of `outlinesBy`.
 module _ (best : ℕ → Layout) (fuel limit : ℕ) where

@@ -1,5 +1,5 @@
--- The best layout of a stack for a height: its first group followed by the best layout of the rest, over all ends of the
--- first group.
+-- The best layout of a stack: its first group followed by the best layout of the rest, over all ends of the first group; first
+-- whatever is made of the two, then for a height.
 -- Nothing here is part of a public promise: `proofs/` shows what it comes to against every layout.
 use Prim.Native.Nat.{ℕ, zero, suc, _+_, _≤_, _<_, max}
 use mathlib.Core.Path.{_≡_}
@@ -10,13 +10,14 @@ use lib.ListN.{length, getD, take, drop}
 use lib.Dec.{ltb, eqb}
 use Rattle.model.specs.Groups.{none, isEnd, Model}
 
--- Its width, its height, and the number of components in its first group.
+-- A layout by its width, its height, and the number of components in its first group. The recurrence uses of the first two
+-- only that less is better, in the width before the height; a `Step` may count something else in them.
 pub record Layout : Type 0 where
   pub width : ℕ
   pub height : ℕ
   pub end : ℕ
 
--- No layout keeps the limit.
+-- There is none.
 abbrev pub unmet : Layout
 unmet = record { width = none; height = none; end = 0 }
 
@@ -54,17 +55,18 @@ layoutsBy gap step g0 (x ∷ cs) = scanBy step g0 (x ∷ cs) (layoutsBy gap step
 abbrev pub layoutBy : {C : Type 0} → (C → ℕ) → Step C → ℕ → List C → Layout
 layoutBy gap step g0 cs = getD (layoutsBy gap step g0 cs) 0 unmet
 
--- The step for a height limit: a first group of k components, as narrow as the limit lets it be and then as low, in front of
--- the rest.
+-- A first group of k components, as narrow as the limit lets it be and then as low, in front of the rest.
+abbrev pub joinedFor : {C : Type 0} → Model C → ℕ → Step C
+joinedFor model limit g0 last group rest k = record {
+  width = model .width limit g0 last group + rest .width;
+  height = max (model .height limit g0 last group) (rest .height);
+  end = k;
+}
+
+-- The step for a height limit: that, where group and rest can keep the limit.
 abbrev pub candidateFor : {C : Type 0} → Model C → ℕ → Step C
 candidateFor model limit g0 last group rest k =
-    cond (ltb (model .width limit g0 last group) none && ltb (rest .width) none)
-    (record {
-      width = model .width limit g0 last group + rest .width;
-      height = max (model .height limit g0 last group) (rest .height);
-      end = k;
-    })
-    unmet
+    cond (ltb (model .width limit g0 last group) none && ltb (rest .width) none) (joinedFor model limit g0 last group rest k) unmet
 
 abbrev pub layoutFor : {C : Type 0} → Model C → ℕ → ℕ → List C → Layout
 layoutFor model limit g0 cs = layoutBy (model .gap) (candidateFor model limit) g0 cs

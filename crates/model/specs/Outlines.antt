@@ -10,12 +10,16 @@ use Rattle.model.specs.Layout.{Layout}
 abbrev pub outline : ℕ → ℕ → Outline
 outline w h = record { width = record { 0 = w }; height = record { 0 = h } }
 
+-- The outline of a layout.
+abbrev pub outlineBy : Layout → Outline
+outlineBy b = outline (b .width) (b .height)
+
 -- `best` has the best layout for each limit. At most as many as the fuel says; heights fall, so fuel as great as the limit
 -- leaves none out.
 unfoldable pub outlinesBy : (ℕ → Layout) → ℕ → ℕ → List Outline
 outlinesBy best zero limit = []
 outlinesBy best (suc fuel) limit =
     elim (ltb (best limit .width) none) [
-      | true ↦ outline (best limit .width) (best limit .height) ∷ outlinesBy best fuel (best limit .height - 1)
+      | true ↦ outlineBy (best limit) ∷ outlinesBy best fuel (best limit .height - 1)
       | false ↦ []
     ]

@@ -6,14 +6,14 @@ use Rattle.terms.specs.Numbers.{mostLimit}
 use Rattle.folding.specs.declared.Outline.{Outline}
 use Rattle.model.specs.Groups.{none}
 use Rattle.model.specs.Layout.{Layout, NoWorse}
-use Rattle.model.specs.Outlines.{outline}
+use Rattle.model.specs.Outlines.{outlineBy}
 
 pub record Search {F : Type 0} (Legal : F → Type 0) (outlineOf : F → Outline) (best : ℕ → Layout) : Type 0 where
-  -- Every legal folding within the limit is wider than the best, or as wide and at least as high; and the best is met.
+  -- Every legal folding within the limit is wider than the best, or as wide and at least as high; and there is a best.
   pub every : (limit : ℕ) (f : F) → Legal f → outlineOf f .height .0 ≤ limit
       → NoWorse (best limit) (outlineOf f .width .0) (outlineOf f .height .0) × (best limit .width < none)
-  -- Where the best is met, a legal folding has its outline, and that keeps the limit.
-  pub some : (limit : ℕ) → best limit .width < none → (f : F) × Legal f × (outlineOf f ≡ outline (best limit .width) (best limit .height))
+  -- Where there is a best, a legal folding has its outline, and that keeps the limit.
+  pub some : (limit : ℕ) → best limit .width < none → (f : F) × Legal f × (outlineOf f ≡ outlineBy (best limit))
   pub keeps : (limit : ℕ) → best limit .width < none → best limit .height ≤ limit
   -- A legal folding is 1 to 2,000,000 high.
   pub high : (f : F) → Legal f → 0 < outlineOf f .height .0

@@ -85,7 +85,7 @@ module _ {kind : Kind} {limit g0 : ℕ} {hs ws gs widths heights es : List ℕ} 
             before = a .before;
             widest-is = wide-more ∙ ap widest (sym part);
             fair = subst (λ (z : Layout). Fair z) (sym (s .best-is)) (best-fair kind limit g0 cs k);
-            rest-width = omega (arith, ap (λ (z : Best). z .width .0) er, a .later .width-is k (omega (arith, long)), no-wider (getD (layouts kind limit g0 cs) (suc k) unmet) none none (layouts-fair (λ x. gap x) (candidateFor (groups kind) limit) g0 cs (suc k)));
+            rest-width = omega (arith, ap (λ (z : Best). z .width .0) er, a .later .width-is k (omega (arith, long)), no-wider (layouts-fair (λ x. gap x) (candidateFor (groups kind) limit) g0 cs (suc k)));
           },
           ((rows-more ∙ ap tall (sym part), omega arith), omega (arith, a .room)),
         )
