@@ -2,6 +2,7 @@
 use Prim.Native.Nat.{ℕ, suc, _+_, _*_, _≤_, _<_, max}
 use mathlib.Core.Path.{_≡_, refl, sym, ap, _∙_, subst}
 use mathlib.Core.List.{List, [], _∷_, reverseAux, map}
+use mathlib.Core.Bool.{true}
 use native.Mathlib.Nat.{le-antisymm}
 use native.Mathlib.Omega.{arith}
 use lib.ListN.{length, take, length-reverseAux, length-take, length-drop}
@@ -15,12 +16,12 @@ use Rattle.folding.specs.Placement.{placedOf}
 use Rattle.folding.specs.Outline.{groupWidth, groupHeight}
 use Rattle.folding.proofs.Sides.{Fronted}
 use Rattle.group.specs.Rows.{tall, rows, place}
-use Rattle.group.specs.Group.{none, leftSide, rightSide, widest, wayHeight, leastHeight, leastWidth, FoldPoint, onLeft, onRight, groupPlaces}
+use Rattle.group.specs.Group.{none, leftSide, rightSide, widest, May, wayHeight, leastHeightBy, leastWidthBy, FoldPointBy, onLeft, onRight, groupPlaces}
 use Rattle.group.proofs.Chains.{reached}
 use Rattle.group.proofs.First.{first-met}
 use Rattle.group.proofs.Sides.{both-sides, tall-sides, widest-sides}
-use Rattle.group.proofs.Ways.{Stands, point-stands}
-use Rattle.group.proofs.Lower.{componentsOf, Measured, measured, measured-least, least-width}
+use Rattle.group.proofs.Ways.{Stands, Suits, width-is, width-some, point-stands}
+use Rattle.group.proofs.Lower.{componentsOf, leftsIn, Measured, measured, measured-least, least-width}
 use Rattle.group.proofs.Falls.{rows-most}
 use Rattle.group.proofs.Reach.{Built, placed-sides, built-starts, stacked-length}
 
@@ -100,34 +101,46 @@ pub record GroupFolds (kind : Kind) (m g0 : ℕ) (cs : List Component) (ps : Lis
   pub height : groupHeight g0 (placedOf cs ps) ≡ h
 
 -- Where there is a least width, it is one at which the limit is kept.
-module _ (kind : Kind) (g0 : ℕ) (cs : List Component) (limit : ℕ) (w : leastWidth kind g0 cs limit < none) where
-  pub least-keeps : leastHeight kind g0 cs (leastWidth kind g0 cs limit) ≤ limit
-  least-keeps = first-met (leastHeight kind g0 cs) limit (widest cs) (suc (widest cs)) w .2
+module _ (may : May) (g0 : ℕ) (cs : List Component) (limit : ℕ) (w : leastWidthBy may g0 cs limit < none) where
+  met : (widest cs ≤ leastWidthBy may g0 cs limit) × (leastHeightBy may g0 cs (leastWidthBy may g0 cs limit) ≤ limit)
+  met =
+      let e = width-is may cs g0 limit (width-some may cs g0 limit w) in
+      rw e (let f = first-met (leastHeightBy may g0 cs) limit (widest cs) (suc (widest cs)) (rw e at w) in (f .0, f .2))
 
-  least-wide : widest cs ≤ leastWidth kind g0 cs limit
-  least-wide = first-met (leastHeight kind g0 cs) limit (widest cs) (suc (widest cs)) w .0
+  pub least-keeps : leastHeightBy may g0 cs (leastWidthBy may g0 cs limit) ≤ limit
+  least-keeps = met .1
+
+  least-wide : widest cs ≤ leastWidthBy may g0 cs limit
+  least-wide = met .0
 
 fronted-measured : (kind : Kind) (m g0 : ℕ) (g : List Placed) → Fronted kind m g → AllSized (componentsOf g) → Measured kind g0 g
 fronted-measured kind m g0 g f s =
     subst (Measured kind g0) (sym (f .order))
     (measured kind g0 (f .first) (f .mates) (f .on-left) (f .alone) (f .run) (subst (λ (k : List Placed). AllSized (componentsOf k)) (f .order) s))
 
-exactly : (kind : Kind) (m g0 : ℕ) (cs : List Component) (limit c p : ℕ) (ps : List Placement) → AllSized cs → leastWidth kind g0 cs limit ≡ c → leastHeight kind g0 cs c ≤ limit
-    → Reached kind m g0 c (leastHeight kind g0 cs c) p cs ps → GroupFolds kind m g0 cs ps c (leastHeight kind g0 cs c)
-exactly kind m g0 cs limit c p ps s e h q =
+exactly : (may : May) (kind : Kind) (m g0 : ℕ) (cs : List Component) (limit c p : ℕ) (ps : List Placement) → AllSized cs → may cs p ≡ true → leastWidthBy may g0 cs limit ≡ c
+    → leastHeightBy may g0 cs c ≤ limit → Reached kind m g0 c (leastHeightBy may g0 cs c) p cs ps → GroupFolds kind m g0 cs ps c (leastHeightBy may g0 cs c)
+exactly may kind m g0 cs limit c p ps s a e h q =
     let g = placedOf cs ps in
     let b = q .built in
     let d = fronted-measured kind m g0 g (b .group) (subst AllSized (sym (b .holds)) s) in
-    let narrow : c ≤ groupWidth g = subst (λ (k : ℕ). k ≤ groupWidth g) (ap (λ (k : List Component). leastWidth kind g0 k limit) (b .holds) ∙ e) (least-width kind g0 g limit d (omega (arith, b .low, h))) in
+    let v : may (componentsOf g) (leftsIn g) ≡ true = rw (b .holds, b .lefts) a in
+    let narrow : c ≤ groupWidth g = subst (λ (k : ℕ). k ≤ groupWidth g) (ap (λ (k : List Component). leastWidthBy may g0 k limit) (b .holds) ∙ e) (least-width may kind g0 g d v limit (omega (arith, b .low, h))) in
     let w : groupWidth g ≡ c = le-antisymm (b .narrow) narrow in
-    let high : leastHeight kind g0 cs c ≤ groupHeight g0 g = rw (w, b .holds) at (measured-least kind g0 g d) in
+    let high : leastHeightBy may g0 cs c ≤ groupHeight g0 g = rw (w, b .holds) at (measured-least may kind g0 g d v) in
     record { whole = q .whole; group = b .group; width = w; height = le-antisymm (b .low) high }
 
--- At the least width for a limit, the placements of a fold point have that width and the least height.
-pub least-reached : (kind : Kind) (g0 : ℕ) (cs : List Component) (limit : ℕ) → 0 < length cs → length cs ≤ 256 → AllSized cs → leastWidth kind g0 cs limit < none
-    → (m p : ℕ) → FoldPoint kind g0 cs (leastWidth kind g0 cs limit) p
-    → GroupFolds kind m g0 cs (groupPlaces (leastWidth kind g0 cs limit) cs m p) (leastWidth kind g0 cs limit) (leastHeight kind g0 cs (leastWidth kind g0 cs limit))
-least-reached kind g0 cs limit some few s w m p f =
-    let c = leastWidth kind g0 cs limit in
-    let r = way-reached kind m g0 cs c p few s (least-wide kind g0 cs limit w) (point-stands kind g0 cs c p f) in
-    exactly kind m g0 cs limit c p (groupPlaces c cs m p) s refl (least-keeps kind g0 cs limit w) (rw (f .least) r)
+-- At the least width for a limit, the placements of a fold point have that width and the least height, and stand so.
+module _ (may : May) (kind : Kind) (suits : Suits kind may) (g0 : ℕ) (cs : List Component) (limit : ℕ) (few : length cs ≤ 256) (s : AllSized cs) (w : leastWidthBy may g0 cs limit < none)
+    (m p : ℕ) (f : FoldPointBy may g0 cs (leastWidthBy may g0 cs limit) p) where
+  abbrev cap : ℕ
+  cap = leastWidthBy may g0 cs limit
+
+  point-reached : Reached kind m g0 cap (wayHeight g0 cs cap p) p cs (groupPlaces cap cs m p)
+  point-reached = way-reached kind m g0 cs cap p few s (least-wide may g0 cs limit w) (point-stands may cs g0 cap kind p suits f)
+
+  pub least-reached : GroupFolds kind m g0 cs (groupPlaces cap cs m p) cap (leastHeightBy may g0 cs cap)
+  least-reached = exactly may kind m g0 cs limit cap p (groupPlaces cap cs m p) s (f .allowed) refl (least-keeps may g0 cs limit w) (rw (f .least) point-reached)
+
+  pub stands-so : leftsIn (placedOf cs (groupPlaces cap cs m p)) ≡ p
+  stands-so = point-reached .built .lefts

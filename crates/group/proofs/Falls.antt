@@ -1,5 +1,5 @@
--- The least height falls as the cap rises; bounds on it; and a fold point that reaches it.
-use Prim.Native.Nat.{ℕ, _+_, _*_, _≤_, _<_}
+-- The least height falls as the cap rises; and bounds on it.
+use Prim.Native.Nat.{ℕ, _+_, _*_, _≤_}
 use mathlib.Core.Path.{_≡_, refl, sym, ap, _∙_, subst}
 use mathlib.Core.List.{List, [], _∷_}
 use mathlib.Core.Bool.{Bool, true, false, cond}
@@ -7,13 +7,12 @@ use native.Mathlib.Omega.{arith}
 use lib.ListN.{length}
 use lib.Dec.{eqb}
 use Rattle.terms.specs.declared.Component.{Component}
-use Rattle.terms.specs.declared.Kind.{Kind}
-use Rattle.terms.specs.declared.Kind.the-variants.{Apart, Nested}
+use Rattle.terms.specs.declared.Kind.the-variants.{Apart}
 use Rattle.group.specs.Rows.{tall, rows, packed, place}
-use Rattle.group.specs.Group.{leftSide, rightSide, flatHeight, foldHeight, mayStand, wayHeight, ways, leastHeight, FoldPoint}
+use Rattle.group.specs.Group.{leftSide, rightSide, flatHeight, foldHeight, May, wayHeight, waysOf, leastHeightBy, FoldPointBy}
 use Rattle.group.proofs.Chains.{Stacked, ClearOf, AllClear, stacked-tall, stacked-wider, packed-stacked, nothing-lower, reached}
 use Rattle.group.proofs.Sides.{both-sides, tall-sides}
-use Rattle.group.proofs.Ways.{lowest-taken, lowest-falls, ways-in, in-ways, apart-whole, some-way, way-flat, point-stands}
+use Rattle.group.proofs.Ways.{lowest-falls, apart-whole, Suits, SomeWay, way-flat, fold-point, point-stands}
 
 -- What is clear under a cap is clear under a greater one.
 clear-of : (c d : ℕ) (x : Component) (s : ℕ) (r : List Component) (ts : List ℕ) → c ≤ d → ClearOf c x s r ts → ClearOf d x s r ts
@@ -40,9 +39,9 @@ way-falls g0 cs c d h p = go (eqb p (length cs))
     go true = omega arith
     go false = omega (arith, rows-falls c d (leftSide p cs) (rightSide p cs) h)
 
-pub falls : (kind : Kind) (g0 : ℕ) (cs : List Component) (c d : ℕ) → c ≤ d → leastHeight kind g0 cs d ≤ leastHeight kind g0 cs c
-unfolding leastHeight
-falls kind g0 cs c d h = lowest-falls (wayHeight g0 cs d) (wayHeight g0 cs c) (ways (mayStand kind cs) (length cs)) (way-falls g0 cs c d h)
+pub falls : (may : May) (g0 : ℕ) (cs : List Component) (c d : ℕ) → c ≤ d → leastHeightBy may g0 cs d ≤ leastHeightBy may g0 cs c
+unfolding leastHeightBy
+falls may g0 cs c d h = lowest-falls (wayHeight g0 cs d) (wayHeight g0 cs c) (waysOf may cs) (way-falls g0 cs c d h)
 
 -- Rows are at least those of each side, and at most those of both.
 pub rows-left-side : (c : ℕ) (l r : List Component) → tall l ≤ rows c 0 0 l r
@@ -83,29 +82,19 @@ way-tall g0 cs c p = go (eqb p (length cs))
     go true = omega arith
     go false = omega (arith, fold-tall c p cs)
 
--- Where the least is taken.
-pub fold-point : (kind : Kind) (g0 : ℕ) (cs : List Component) (c : ℕ) → 0 < length cs → (p : ℕ) × FoldPoint kind g0 cs c p
-unfolding leastHeight
-fold-point kind g0 cs c some =
-    let w = some-way kind cs some in
-    let t = lowest-taken (wayHeight g0 cs c) (ways (mayStand kind cs) (length cs)) (w .0) (ways-in (mayStand kind cs) (length cs) (w .0) (w .1)) in
-    let i = in-ways (mayStand kind cs) (length cs) (t .0) (t .1) in
-    (t .0, record { some = i .0; within = i .1; allowed = i .2; least = t .2 })
+module _ (may : May) (g0 : ℕ) (cs : List Component) (c : ℕ) (some : SomeWay may cs) where
+  pub two-sides : tall cs ≤ 2 * leastHeightBy may g0 cs c
+  two-sides = let f = fold-point may cs g0 c some in omega (arith, f .1 .least, way-tall g0 cs c (f .0))
 
-pub two-sides : (g0 : ℕ) (cs : List Component) (c : ℕ) → tall cs ≤ 2 * leastHeight Nested g0 cs c
-unfolding tall
-two-sides g0 [] c = omega arith
-two-sides g0 (x ∷ cs) c = let f = fold-point Nested g0 (x ∷ cs) c (omega arith) in omega (arith, f .1 .least, way-tall g0 (x ∷ cs) c (f .0))
+  -- An apart group has no fold, so the cap does not matter.
+  module _ (suits : Suits Apart may) where
+    pub apart-point : FoldPointBy may g0 cs c (length cs)
+    apart-point =
+        let f = fold-point may cs g0 c some in
+        subst (FoldPointBy may g0 cs c) (apart-whole (length cs) (f .0) (point-stands may cs g0 c Apart (f .0) suits (f .1))) (f .1)
 
--- An apart group has no fold, so the cap does not matter.
-module _ (g0 : ℕ) (cs : List Component) (c : ℕ) where
-  pub apart-point : 0 < length cs → FoldPoint Apart g0 cs c (length cs)
-  apart-point some = let f = fold-point Apart g0 cs c some in subst (FoldPoint Apart g0 cs c) (apart-whole (length cs) (f .0) (point-stands Apart g0 cs c (f .0) (f .1))) (f .1)
+    pub apart-height : leastHeightBy may g0 cs c ≡ flatHeight g0 cs
+    apart-height = apart-point .least ∙ way-flat g0 cs c (length cs) refl
 
-  pub apart-height : 0 < length cs → leastHeight Apart g0 cs c ≡ flatHeight g0 cs
-  apart-height some = apart-point some .least ∙ way-flat g0 cs c (length cs) refl
-
-pub one-side : (g0 : ℕ) (cs : List Component) (c : ℕ) → tall cs ≤ leastHeight Apart g0 cs c
-unfolding tall
-one-side g0 [] c = omega arith
-one-side g0 (x ∷ cs) c = omega (arith, apart-height g0 (x ∷ cs) c (omega arith))
+    pub one-side : tall cs ≤ leastHeightBy may g0 cs c
+    one-side = omega (arith, apart-height)

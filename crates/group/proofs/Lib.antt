@@ -6,7 +6,7 @@ pub mod Lower
 pub mod Falls
 pub mod Reach
 pub mod Exact
-pub mod Laws
+pub mod Placed
 pub mod Bare
 pub mod Indices
 pub mod Gaps

@@ -1,6 +1,6 @@
 -- No legal group is lower than the least height at its own width, and none is narrower than the least width for its height.
 use Prim.Native.Nat.{ℕ, suc, _+_, _*_, _≤_, _<_, max}
-use mathlib.Core.Path.{_≡_, refl, sym, ap, _∙_}
+use mathlib.Core.Path.{_≡_, refl, sym, ap, _∙_, subst}
 use mathlib.Core.List.{List, [], _∷_, reverseAux, map}
 use mathlib.Core.Bool.{true, false, true≢false, cond}
 use native.Mathlib.Omega.{arith}
@@ -19,10 +19,10 @@ use Rattle.folding.proofs.Sides.{Chain, Members, sides, flat-height, fold-heigh
 use Rattle.folding.proofs.Pairs.{Narrow, FitAll, AllFit, cap-narrow-left, cap-narrow-right, cap-fits, cap-of}
 use Rattle.model.specs.Groups.{gapBehind}
 use Rattle.group.specs.Rows.{gap, tall, rows}
-use Rattle.group.specs.Group.{gapAfter, widest, flatHeight, foldHeight, wayHeight, leastHeight, leastWidth}
+use Rattle.group.specs.Group.{gapAfter, widest, flatHeight, foldHeight, May, wayHeight, leastHeightBy, leastWidthBy}
 use Rattle.group.proofs.Chains.{Stacked, ClearOf, AllClear, nothing-lower}
 use Rattle.group.proofs.First.{first-le}
-use Rattle.group.proofs.Ways.{Stands, stands-allowed, way-flat, way-fold, least-at}
+use Rattle.group.proofs.Ways.{Stands, Allowed, allowed-some, width-is, way-flat, way-fold, least-at}
 use Rattle.group.proofs.Sides.{take-left, left-side, right-side, tall-sides, gap-sides, gap-front, widest-sides}
 
 abbrev pub componentsOf : List Placed → List Component
@@ -142,6 +142,27 @@ way-sides kind m g0 x l (y ∷ r) at e f =
       way-fold g0 (reverseAux cs ds) at (length cs) (omega (arith, length-reverseAux cs ds)),
     ))
 
+-- How the group of two sides stands.
+module _ (kind : Kind) (m : ℕ) (x : Placed) (l r : List Placed) (ml : Members kind m true (x ∷ l)) (mr : Members kind m false r) where
+  lefts-are : leftsIn (reverseAux (x ∷ l) r) ≡ length (componentsOf (x ∷ l))
+  lefts-are = lefts-sides kind m (x ∷ l) r ml mr
+
+  group-long : length (componentsOf (reverseAux (x ∷ l) r)) ≡ length (componentsOf (x ∷ l)) + length (componentsOf r)
+  group-long = ap length (components-sides (x ∷ l) r) ∙ length-reverseAux (componentsOf (x ∷ l)) (componentsOf r)
+
+  stands-sides : Stands kind (length (componentsOf (reverseAux (x ∷ l) r))) (leftsIn (reverseAux (x ∷ l) r))
+  stands-sides = record {
+    some = omega (arith, lefts-are);
+    within = omega (arith, lefts-are, group-long);
+    folded = λ h. right-nested kind m r mr (omega (arith, lefts-are, group-long));
+  }
+
+pub group-stands : (kind : Kind) (x : Placed) (a : List Placed) → left x ≡ true → Alone kind x → Run kind x a → Stands kind (length (componentsOf (x ∷ a))) (leftsIn (x ∷ a))
+group-stands kind x a l e r =
+    let d = sides kind [] x a l e r tt tt in
+    subst (λ (g : List Placed). Stands kind (length (componentsOf g)) (leftsIn g)) (sym (d .order))
+    (stands-sides kind (groupOf x) (d .lowest) (d .lefts) (d .rights) (d .left-members) (d .right-members))
+
 -- The two sides of a legal group.
 module _ (kind : Kind) (m g0 : ℕ) (x : Placed) (l r : List Placed) (cl : Chain 0 (x ∷ l)) (cr : Chain 0 r) (ml : Members kind m true (x ∷ l)) (mr : Members kind m false r)
     (sl : AllSized (componentsOf (x ∷ l))) (sr : AllSized (componentsOf r)) where
@@ -170,21 +191,8 @@ module _ (kind : Kind) (m g0 : ℕ) (x : Placed) (l r : List Placed) (cl : Chain
       cap-of (2 * w) 0 0 (x ∷ l) r cl cr (widest-narrow (2 * w) (x ∷ l) (omega arith)) (widest-narrow (2 * w) r (omega arith))
       (all-fit w (x ∷ l) r (widest-narrow w (x ∷ l) (omega arith)) (widest-narrow w r (omega arith)))
 
-  lefts-are : leftsIn group ≡ length (componentsOf (x ∷ l))
-  lefts-are = lefts-sides kind m (x ∷ l) r ml mr
-
-  group-long : length (componentsOf group) ≡ length (componentsOf (x ∷ l)) + length (componentsOf r)
-  group-long = ap length (components-sides (x ∷ l) r) ∙ length-reverseAux (componentsOf (x ∷ l)) (componentsOf r)
-
-  stands-sides : Stands kind (length (componentsOf group)) (leftsIn group)
-  stands-sides = record {
-    some = omega (arith, lefts-are);
-    within = omega (arith, lefts-are, group-long);
-    folded = λ h. right-nested kind m r mr (omega (arith, lefts-are, group-long));
-  }
-
   measured-sides : Measured kind g0 group
-  measured-sides = record { wide = sides-widest; slim = sides-bound; stands = stands-sides; high = rw lefts-are (omega (arith, way-sides kind m g0 x l r width ml mr, rows-low)) }
+  measured-sides = record { wide = sides-widest; slim = sides-bound; stands = stands-sides kind m x l r ml mr; high = rw (lefts-are kind m x l r ml mr) (omega (arith, way-sides kind m g0 x l r width ml mr, rows-low)) }
 
 measured-order : (kind : Kind) (g0 m : ℕ) (g : List Placed) (x : Placed) (l r : List Placed) → g ≡ reverseAux (x ∷ l) r → Chain 0 (x ∷ l) → Chain 0 r → Members kind m true (x ∷ l)
     → Members kind m false r → AllSized (componentsOf g) → Measured kind g0 g
@@ -197,11 +205,16 @@ measured kind g0 x a l e r s =
     let d = sides kind [] x a l e r tt tt in
     measured-order kind g0 (groupOf x) (x ∷ a) (d .lowest) (d .lefts) (d .rights) (d .order) (d .left-chain) (d .right-chain) (d .left-members) (d .right-members) s
 
--- It is no lower than the least height, since its way of standing is allowed.
-pub measured-least : (kind : Kind) (g0 : ℕ) (g : List Placed) → Measured kind g0 g → leastHeight kind g0 (componentsOf g) (groupWidth g) ≤ groupHeight g0 g
-measured-least kind g0 g d =
-    omega (arith, d .high, least-at kind g0 (componentsOf g) (groupWidth g) (leftsIn g) (stands-allowed kind (componentsOf g) (leftsIn g) (d .stands)))
+-- Where its way of standing is allowed, it is no lower than the least height, and no narrower than the least width for a limit
+-- that it keeps.
+module _ (may : May) (kind : Kind) (g0 : ℕ) (g : List Placed) (d : Measured kind g0 g) (e : may (componentsOf g) (leftsIn g) ≡ true) where
+  its-way : Allowed (may (componentsOf g)) (length (componentsOf g)) (leftsIn g)
+  its-way = (d .stands .some, d .stands .within, e)
 
-pub least-width : (kind : Kind) (g0 : ℕ) (g : List Placed) (limit : ℕ) → Measured kind g0 g → groupHeight g0 g ≤ limit → leastWidth kind g0 (componentsOf g) limit ≤ groupWidth g
-least-width kind g0 g limit d h =
-    first-le (leastHeight kind g0 (componentsOf g)) limit (widest (componentsOf g)) (suc (widest (componentsOf g))) (groupWidth g) (d .wide) (omega (arith, d .slim)) (omega (arith, measured-least kind g0 g d, h))
+  pub measured-least : leastHeightBy may g0 (componentsOf g) (groupWidth g) ≤ groupHeight g0 g
+  measured-least = omega (arith, d .high, least-at may (componentsOf g) g0 (groupWidth g) (leftsIn g) its-way)
+
+  pub least-width : (limit : ℕ) → groupHeight g0 g ≤ limit → leastWidthBy may g0 (componentsOf g) limit ≤ groupWidth g
+  least-width limit h =
+      rw (width-is may (componentsOf g) g0 limit (allowed-some may (componentsOf g) (leftsIn g) its-way))
+      (first-le (leastHeightBy may g0 (componentsOf g)) limit (widest (componentsOf g)) (suc (widest (componentsOf g))) (groupWidth g) (d .wide) (omega (arith, d .slim)) (omega (arith, measured-least, h)))

@@ -3,7 +3,7 @@ use Prim.Native.Nat.{ℕ, zero, suc, _≤_, _<_, min}
 use mathlib.Core.Path.{_≡_, refl, ap, _∙_}
 use mathlib.Core.Logic.{_⊎_, inl, inr}
 use mathlib.Core.List.{List, [], _∷_}
-use mathlib.Core.Bool.{Bool, true, false, cond}
+use mathlib.Core.Bool.{Bool, true, false, true≢false, cond}
 use native.Mathlib.Nat.{eq-or-lt-of-le, le-of-suc-le-suc}
 use native.Mathlib.Omega.{arith}
 use lib.ListN.{length}
@@ -11,7 +11,8 @@ use borrow.Author.Tests.{eqb-true, eq-eqb, ne-eqb}
 use Rattle.terms.specs.declared.Component.{Component}
 use Rattle.terms.specs.declared.Kind.{Kind}
 use Rattle.terms.specs.declared.Kind.the-variants.{Apart, Nested}
-use Rattle.group.specs.Group.{flatHeight, foldHeight, mayStand, wayHeight, ways, lowest, leastHeight, FoldPoint}
+use Rattle.model.specs.Groups.{isEnd}
+use Rattle.group.specs.Group.{none, flatHeight, foldHeight, May, mayStand, wayHeight, ways, lowest, waysOf, leastHeightBy, leastCap, leastWidthBy, FoldPointBy}
 use Rattle.terms.proofs.Order.{order}
 
 -- p is one of a list of ways.
@@ -37,6 +38,11 @@ lowest-taken f (q ∷ r ∷ l) p i = go (order (f q) (lowest f (r ∷ l))) (lowe
     go : (f q ≤ lowest f (r ∷ l)) ⊎ (lowest f (r ∷ l) < f q) → (s : ℕ) × In s (r ∷ l) × (lowest f (r ∷ l) ≡ f s) → (s : ℕ) × In s (q ∷ r ∷ l) × (min (f q) (lowest f (r ∷ l)) ≡ f s)
     go (inl h) t = (q, inl refl, omega arith)
     go (inr h) (s, j, e) = (s, inr j, omega arith)
+
+lowest-some : (f : ℕ → ℕ) (l : List ℕ) → lowest f l < none → isEnd l ≡ false
+unfolding lowest
+lowest-some f [] h = absurd (omega arith)
+lowest-some f (p ∷ l) h = refl
 
 pub lowest-falls : (f g : ℕ → ℕ) (l : List ℕ) → ((p : ℕ) → f p ≤ g p) → lowest f l ≤ lowest g l
 unfolding lowest
@@ -88,19 +94,21 @@ apart-whole n p s = go (order n p)
     go (inl h) = omega (arith, s .within)
     go (inr h) = let e : Apart ≡ Nested = s .folded h in cc
 
--- What the kinds allow; nothing else looks into `mayStand`. A fold: only to nested groups.
-folds-nested : (kind : Kind) (cs : List Component) (p : ℕ) → p < length cs → mayStand kind cs p ≡ true → kind ≡ Nested
-folds-nested Apart cs p h a = absurd (let e = eqb-true p (length cs) a in omega arith)
-folds-nested Nested cs p h a = refl
+-- A rule for groups of a kind: it allows a fold to nested groups only.
+abbrev pub Suits : Kind → May → Type 0
+Suits kind may = (cs : List Component) (p : ℕ) → p < length cs → may cs p ≡ true → kind ≡ Nested
 
--- Every way in which a legal group stands.
-pub stands-allowed : (kind : Kind) (cs : List Component) (p : ℕ) → Stands kind (length cs) p → Allowed (mayStand kind cs) (length cs) p
-stands-allowed Apart cs p s = (s .some, s .within, eq-eqb p (length cs) (apart-whole (length cs) p s))
-stands-allowed Nested cs p s = (s .some, s .within, refl)
+-- Some way is allowed to the group.
+abbrev pub SomeWay : May → List Component → Type 0
+SomeWay may cs = isEnd (waysOf may cs) ≡ false
 
--- Some way to every group: without a fold.
-pub some-way : (kind : Kind) (cs : List Component) → 0 < length cs → (p : ℕ) × Allowed (mayStand kind cs) (length cs) p
-some-way kind cs s = (length cs, stands-allowed kind cs (length cs) (record { some = s; within = omega arith; folded = λ h. absurd (omega arith) }))
+first-in : (l : List ℕ) → isEnd l ≡ false → (p : ℕ) × In p l
+first-in [] e = absurd (true≢false e)
+first-in (p ∷ l) e = (p, inl refl)
+
+in-some : (l : List ℕ) (p : ℕ) → In p l → isEnd l ≡ false
+in-some [] p i = absurd i
+in-some (q ∷ l) p i = refl
 
 -- The height of a way without a fold, and with one.
 module _ (g0 : ℕ) (cs : List Component) (cap p : ℕ) where
@@ -110,11 +118,57 @@ module _ (g0 : ℕ) (cs : List Component) (cap p : ℕ) where
   pub way-fold : p < length cs → wayHeight g0 cs cap p ≡ foldHeight g0 cs cap p
   way-fold h = rw (ne-eqb p (length cs) (λ e. omega arith))
 
--- No way that is allowed is lower than the least height, and one that has it is that of a legal group.
-module _ (kind : Kind) (g0 : ℕ) (cs : List Component) (cap p : ℕ) where
-  pub least-at : Allowed (mayStand kind cs) (length cs) p → leastHeight kind g0 cs cap ≤ wayHeight g0 cs cap p
-  unfolding leastHeight
-  least-at a = lowest-at (wayHeight g0 cs cap) (ways (mayStand kind cs) (length cs)) p (ways-in (mayStand kind cs) (length cs) p a)
+module _ (may : May) (cs : List Component) where
+  pub allowed-some : (p : ℕ) → Allowed (may cs) (length cs) p → SomeWay may cs
+  allowed-some p a = in-some (waysOf may cs) p (ways-in (may cs) (length cs) p a)
 
-  pub point-stands : FoldPoint kind g0 cs cap p → Stands kind (length cs) p
-  point-stands f = record { some = f .some; within = f .within; folded = λ h. folds-nested kind cs p h (f .allowed) }
+  -- The least width where some way is allowed; and where there is one, some way is.
+  pub width-is : (g0 limit : ℕ) → SomeWay may cs → leastWidthBy may g0 cs limit ≡ leastCap may g0 cs limit
+  width-is g0 limit e = rw e
+
+  pub width-some : (g0 limit : ℕ) → leastWidthBy may g0 cs limit < none → SomeWay may cs
+  width-some g0 limit = go (isEnd (waysOf may cs))
+    where
+      go : (b : Bool) → cond b none (leastCap may g0 cs limit) < none → b ≡ false
+      go true h = absurd (omega arith)
+      go false h = refl
+
+  -- Where there is a height, too.
+  pub height-some : (g0 cap : ℕ) → leastHeightBy may g0 cs cap < none → SomeWay may cs
+  unfolding leastHeightBy
+  height-some g0 cap h = lowest-some (wayHeight g0 cs cap) (waysOf may cs) h
+
+  -- No way that is allowed is lower than the least height, and one has it.
+  module _ (g0 cap : ℕ) where
+    pub least-at : (p : ℕ) → Allowed (may cs) (length cs) p → leastHeightBy may g0 cs cap ≤ wayHeight g0 cs cap p
+    unfolding leastHeightBy
+    least-at p a = lowest-at (wayHeight g0 cs cap) (waysOf may cs) p (ways-in (may cs) (length cs) p a)
+
+    pub fold-point : SomeWay may cs → (p : ℕ) × FoldPointBy may g0 cs cap p
+    unfolding leastHeightBy
+    fold-point e =
+        let w = first-in (waysOf may cs) e in
+        let t = lowest-taken (wayHeight g0 cs cap) (waysOf may cs) (w .0) (w .1) in
+        let i = in-ways (may cs) (length cs) (t .0) (t .1) in
+        (t .0, record { some = i .0; within = i .1; allowed = i .2; least = t .2 })
+
+    pub point-stands : (kind : Kind) (p : ℕ) → Suits kind may → FoldPointBy may g0 cs cap p → Stands kind (length cs) p
+    point-stands kind p s f = record { some = f .some; within = f .within; folded = λ h. s cs p h (f .allowed) }
+
+-- What the kinds allow; nothing else looks into `mayStand`. A fold: only to nested groups.
+pub suits : (kind : Kind) → Suits kind (mayStand kind)
+unfolding mayStand
+suits Apart cs p h a = absurd (let e = eqb-true p (length cs) a in omega arith)
+suits Nested cs p h a = refl
+
+-- Every way in which a legal group stands.
+pub stands-allowed : (kind : Kind) (cs : List Component) (p : ℕ) → Stands kind (length cs) p → mayStand kind cs p ≡ true
+unfolding mayStand
+stands-allowed Apart cs p s = eq-eqb p (length cs) (apart-whole (length cs) p s)
+stands-allowed Nested cs p s = refl
+
+-- Some way to every group: without a fold.
+pub some-way : (kind : Kind) (cs : List Component) → 0 < length cs → SomeWay (mayStand kind) cs
+some-way kind cs s =
+    allowed-some (mayStand kind) cs (length cs)
+    (s, omega arith, stands-allowed kind cs (length cs) (record { some = s; within = omega arith; folded = λ h. absurd (omega arith) }))

@@ -1,6 +1,6 @@
 -- The least height of one group whose width may be at most a cap, over all its ways of standing, and the least width for a
 -- height.
--- Nothing here is part of a public promise: `proofs/Lower.antt` and `proofs/Reach.antt` show what it comes to.
+-- Nothing here is part of a public promise: `proofs/Lower.antt` and `proofs/Exact.antt` show what it comes to.
 use Prim.Native.Nat.{ℕ, zero, suc, _+_, _≤_, _<_, min, max}
 use mathlib.Core.Path.{_≡_}
 use mathlib.Core.List.{List, [], _∷_, reverseAux, map}
@@ -11,7 +11,7 @@ use Rattle.terms.specs.declared.Component.{Component}
 use Rattle.terms.specs.declared.Kind.{Kind}
 use Rattle.terms.specs.declared.Kind.the-variants.{Apart, Nested}
 use Rattle.folding.specs.declared.Placement.{Placement}
-use Rattle.model.specs.Groups.{gapBehind}
+use Rattle.model.specs.Groups.{isEnd, gapBehind}
 use Rattle.group.specs.Rows.{wd, gap, tall, rows, place}
 pub use Rattle.model.specs.Groups.{none}
 
@@ -38,8 +38,12 @@ abbrev pub foldHeight : ℕ → List Component → ℕ → ℕ → ℕ
 foldHeight g0 cs cap p = rows cap 0 0 (leftSide p cs) (rightSide p cs) + max g0 (gapAfter cs) + gapAfter (take p cs)
 
 -- A group's way of standing is the number p of components on its left: its fold is behind them, and it has none where they
--- are all of them. Which ways are allowed is one function of that number: apart all of them, nested any.
-abbrev pub mayStand : Kind → List Component → ℕ → Bool
+-- are all of them. A rule says which ways are allowed to a group of these components.
+abbrev pub May : Type 0
+May = List Component → ℕ → Bool
+
+-- The rule of document 01: apart all of them, nested any.
+unfoldable pub mayStand : Kind → May
 mayStand Apart cs p = eqb p (length cs)
 mayStand Nested cs p = true
 
@@ -58,24 +62,42 @@ lowest f [] = none
 lowest f (p ∷ []) = f p
 lowest f (p ∷ q ∷ l) = min (f p) (lowest f (q ∷ l))
 
-unfoldable pub leastHeight : Kind → ℕ → List Component → ℕ → ℕ
-leastHeight kind g0 cs cap = lowest (wayHeight g0 cs cap) (ways (mayStand kind cs) (length cs))
+abbrev pub waysOf : May → List Component → List ℕ
+waysOf may cs = ways (may cs) (length cs)
+
+unfoldable pub leastHeightBy : May → ℕ → List Component → ℕ → ℕ
+leastHeightBy may g0 cs cap = lowest (wayHeight g0 cs cap) (waysOf may cs)
 
 -- The first of n numbers from c on at which f is at most the limit.
 unfoldable pub firstFrom : (ℕ → ℕ) → ℕ → ℕ → ℕ → ℕ
 firstFrom f limit c zero = none
 firstFrom f limit c (suc n) = cond (leb (f c) limit) c (firstFrom f limit (suc c) n)
 
--- No row of a group holds more than two components, so no group is wider than twice its widest.
-abbrev pub leastWidth : Kind → ℕ → List Component → ℕ → ℕ
-leastWidth kind g0 cs limit = firstFrom (leastHeight kind g0 cs) limit (widest cs) (suc (widest cs))
+-- The first cap at which the group is within the limit. No row of a group holds more than two components, so no group is wider
+-- than twice its widest.
+abbrev pub leastCap : May → ℕ → List Component → ℕ → ℕ
+leastCap may g0 cs limit = firstFrom (leastHeightBy may g0 cs) limit (widest cs) (suc (widest cs))
+
+-- Where no way is allowed there is no width, at limits of `none` and over too.
+abbrev pub leastWidthBy : May → ℕ → List Component → ℕ → ℕ
+leastWidthBy may g0 cs limit = cond (isEnd (waysOf may cs)) none (leastCap may g0 cs limit)
 
 -- A way that is allowed and in which the group is as low as it can be.
-pub record FoldPoint (kind : Kind) (g0 : ℕ) (cs : List Component) (cap p : ℕ) : Type 0 where
+pub record FoldPointBy (may : May) (g0 : ℕ) (cs : List Component) (cap p : ℕ) : Type 0 where
   pub some : 0 < p
   pub within : p ≤ length cs
-  pub allowed : mayStand kind cs p ≡ true
-  pub least : leastHeight kind g0 cs cap ≡ wayHeight g0 cs cap p
+  pub allowed : may cs p ≡ true
+  pub least : leastHeightBy may g0 cs cap ≡ wayHeight g0 cs cap p
+
+-- The same for a kind.
+abbrev pub leastHeight : Kind → ℕ → List Component → ℕ → ℕ
+leastHeight kind g0 cs cap = leastHeightBy (mayStand kind) g0 cs cap
+
+abbrev pub leastWidth : Kind → ℕ → List Component → ℕ → ℕ
+leastWidth kind g0 cs limit = leastWidthBy (mayStand kind) g0 cs limit
+
+abbrev pub FoldPoint : Kind → ℕ → List Component → ℕ → ℕ → Type 0
+FoldPoint kind g0 cs cap p = FoldPointBy (mayStand kind) g0 cs cap p
 
 -- The placements of the group numbered m that stands so.
 abbrev pub onLeft : ℕ → List ℕ → List Placement

@@ -8,11 +8,13 @@ use Rattle.terms.specs.declared.Component.{Component}
 use Rattle.terms.specs.declared.Kind.the-variants.{Nested}
 use Rattle.terms.specs.Component.{tabulate, componentIn, componentsIn}
 use Rattle.group.specs.Rows.{wd}
-use Rattle.group.specs.Group.{none, widest, leastHeight, leastWidth}
+use Rattle.group.specs.Group.{none, widest, mayStand, leastHeight, leastWidth}
 use Rattle.terms.proofs.Order.{order}
 use Rattle.group_height.specs.Heights.{HeightAsks, WidthAsks, Narrow}
+use Rattle.group.proofs.Ways.{width-is, height-some}
 use Rattle.group.proofs.Falls.{falls}
-use Rattle.group.proofs.First.{first-met, first-is}
+use Rattle.group.proofs.First.{first-is}
+use Rattle.group.proofs.Exact.{least-keeps}
 
 -- The widest component of a group.
 widest-snoc : (l : List Component) (x : Component) → widest (l ++ (x ∷ [])) ≡ max (widest l) (wd x)
@@ -51,7 +53,7 @@ module _ {g0 : ℕ} {hs ws gs es : List ℕ} {limit wide cap : ℕ} (r : WidthAs
   -- Too high even at the cap.
   pub too-high : (v h : ℕ) → v ≡ leastHeight Nested g0 cs cap → limit < v → Narrow g0 hs ws gs limit cap none h
   too-high v h e o = record {
-    within = λ u. absurd (omega (arith, first-met (leastHeight Nested g0 cs) limit (widest cs) (suc (widest cs)) (omega (arith, cap-low)) .2, falls Nested g0 cs (leastWidth Nested g0 cs limit) cap u));
+    within = λ u. absurd (omega (arith, least-keeps (mayStand Nested) g0 cs limit (omega (arith, cap-low)), falls (mayStand Nested) g0 cs (leastWidth Nested g0 cs limit) cap u));
     over = λ u. refl;
   }
 
@@ -71,12 +73,13 @@ module _ {g0 : ℕ} {hs ws gs es : List ℕ} {limit wide cap : ℕ} (r : WidthAs
       to = i .to;
       height = i .height;
       within = i .within;
-      over = λ c p q. omega (arith, falls Nested g0 cs c mid (omega arith));
+      over = λ c p q. omega (arith, falls (mayStand Nested) g0 cs c mid (omega arith));
     }
 
   pub halved : {old fs : List ℕ} {lo hi v : ℕ} → Halving g0 hs ws gs old fs limit wide cap lo hi v → hi ≤ lo → Narrow g0 hs ws gs limit cap hi v
   halved {old} {fs} {lo} {hi} {v} i h =
       let k : leastWidth Nested g0 cs limit ≡ hi =
-      first-is (leastHeight Nested g0 cs) limit (widest cs) (suc (widest cs)) hi (omega (arith, i .from, i .order, r .is-widest)) (omega (arith, i .to, r .to, r .is-widest)) (omega (arith, i .height, i .within))
+      width-is (mayStand Nested) cs g0 limit (height-some (mayStand Nested) cs g0 hi (omega (arith, i .height, i .within, r .limit-low)))
+      ∙ first-is (leastHeight Nested g0 cs) limit (widest cs) (suc (widest cs)) hi (omega (arith, i .from, i .order, r .is-widest)) (omega (arith, i .to, r .to, r .is-widest)) (omega (arith, i .height, i .within))
       (λ j l u. i .over j (omega (arith, r .is-widest)) (omega arith)) in
       record { within = λ u. (sym k, i .height); over = λ u. absurd (omega (arith, i .to)) }

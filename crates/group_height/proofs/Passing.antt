@@ -13,8 +13,7 @@ use Rattle.terms.proofs.Tabulate.{tabulate-length}
 use Rattle.group.specs.Group.{flatHeight, foldHeight, mayStand, wayHeight, leastHeight, FoldPoint}
 use Rattle.group.specs.Table.{Filled}
 use Rattle.terms.proofs.Order.{order}
-use Rattle.group.proofs.Ways.{Allowed, stands-allowed, way-flat, way-fold, least-at}
-use Rattle.group.proofs.Falls.{fold-point}
+use Rattle.group.proofs.Ways.{Allowed, allowed-some, way-flat, way-fold, least-at, fold-point, stands-allowed}
 use Rattle.group.proofs.Indices.{at-le}
 use Rattle.group_height.specs.Heights.{HeightAsks}
 use Rattle.group_height.specs.Inner.{flatBy, foldBy, PassAsks, Point, Pass}
@@ -101,7 +100,7 @@ module _ {g0 : ℕ} {hs ws gs old es : List ℕ} {cap : ℕ} (r : HeightAsks g0 
         go (fold s l o) = (s, omega (arith, long))
 
     allowed : Allowed (mayStand Nested cs) (length cs) at
-    allowed = stands-allowed Nested cs at (record { some = bounds .0; within = bounds .1; folded = λ h. refl })
+    allowed = (bounds .0, bounds .1, stands-allowed Nested cs at (record { some = bounds .0; within = bounds .1; folded = λ h. refl }))
 
     way-is : v ≡ wayHeight g0 cs cap at
     way-is = go (d .point)
@@ -119,9 +118,9 @@ module _ {g0 : ℕ} {hs ws gs old es : List ℕ} {cap : ℕ} (r : HeightAsks g0 
 
     pub is-least : v ≡ leastHeight Nested g0 cs cap
     is-least =
-        let f = fold-point Nested g0 cs cap (omega (arith, r .some, r .gaps-long, long)) in
+        let f = fold-point (mayStand Nested) cs g0 cap (allowed-some (mayStand Nested) cs at allowed) in
         le-antisymm (omega (arith, f .1 .least, none-lower (f .0) (f .1 .some) (f .1 .within)))
-        (omega (arith, way-is, least-at Nested g0 cs cap at allowed))
+        (omega (arith, way-is, least-at (mayStand Nested) cs g0 cap at allowed))
 
     pub is-point : FoldPoint Nested g0 cs cap at
     is-point = record { some = allowed .0; within = allowed .1; allowed = allowed .2; least = sym is-least ∙ way-is }

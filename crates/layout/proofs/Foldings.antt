@@ -2,7 +2,7 @@
 use Prim.Native.Nat.{ℕ, zero, suc, _+_, _≤_}
 use mathlib.Core.Path.{_≡_, refl, sym, ap, _∙_, subst}
 use mathlib.Core.List.{List, [], _∷_, _++_, map}
-use mathlib.Core.Bool.{true}
+use mathlib.Core.Bool.{Bool, true}
 use native.Mathlib.Omega.{arith}
 use lib.ListN.{length, length-append}
 use Rattle.terms.specs.declared.Component.{Component}
@@ -14,18 +14,21 @@ use Rattle.folding.specs.Legal.{Legal}
 use Rattle.folding.specs.Outline.{groupsOf, groupWidth, groupHeight, lastGap, layoutWidth, layoutHeight, outlineOf}
 use Rattle.folding.proofs.Rules.{Alone, LegalFrom, legal-is, legal-of}
 use Rattle.folding.proofs.Groups.{Run, cut, paste-width, paste-height}
-use Rattle.model.specs.Groups.{Group, membersOf, widthOf, heightOf, Stands, LayoutOf}
+use Rattle.folding.proofs.Sides.{Fronted}
+use Rattle.model.specs.Groups.{isEnd, Rule, Group, membersOf, widthOf, heightOf, Stands, LayoutOf}
 use Rattle.model.specs.Outlines.{outline}
+use Rattle.model.specs.Layout.{layoutFor}
 use Rattle.model.specs.Search.{Search}
 use Rattle.model.proofs.Layouts.{layouts-search}
 use Rattle.model.proofs.Transfer.{transfer}
 use Rattle.group.specs.Rows.{gap}
-use Rattle.group.specs.Group.{gapAfter}
-use Rattle.group.proofs.Lower.{componentsOf, last-gap}
-use Rattle.group.proofs.Laws.{components-placed}
+use Rattle.group.specs.Group.{gapAfter, May, mayStand}
+use Rattle.group.proofs.Ways.{Suits, suits, stands-allowed}
+use Rattle.group.proofs.Lower.{componentsOf, leftsIn, last-gap, group-stands}
+use Rattle.group.proofs.Placed.{components-placed}
 use Rattle.group.proofs.Exact.{GroupFolds}
-use Rattle.layout.specs.Layout.{layoutOf}
-use Rattle.layout.proofs.Folds.{Folds, folds-none, folds-join}
+use Rattle.layout.specs.Layout.{groupsBy, layoutOf}
+use Rattle.layout.proofs.Folds.{Folds, placed-append, folds-none, folds-join}
 use Rattle.layout.proofs.Groups.{legalGroup, Stacked, groups-laws}
 
 -- Placed components, taken apart and put together again.
@@ -45,9 +48,37 @@ components-append : (a b : List Placed) → componentsOf (a ++ b) ≡ components
 components-append [] b = refl
 components-append (x ∷ a) b = ap (λ (l : List Component). x .component ∷ l) (components-append a b)
 
-module _ (kind : Kind) where
+pub placed-end : (cs : List Component) (ps : List Placement) → length ps ≡ length cs → isEnd (placedOf cs ps) ≡ isEnd cs
+unfolding placedOf
+placed-end [] ps e = refl
+placed-end (c ∷ cs) [] e = absurd (omega arith)
+placed-end (c ∷ cs) (p ∷ ps) e = refl
+
+components-end : (l : List Placed) → isEnd (componentsOf l) ≡ isEnd l
+components-end [] = refl
+components-end (x ∷ l) = refl
+
+-- What foldings obey beside the rules of `LegalFrom`, and what ways of standing are allowed to their groups, say the same: of a
+-- first group x and a, and the rest b.
+pub record Agrees (kind : Kind) (may : Bool → May) (Obeys : List Placed → Type 0) : Type 0 where
+  pub fits : (last : Bool) → Suits kind (may last)
+  pub nothing : Obeys []
+  pub cuts : (x : Placed) (a b : List Placed) → left x ≡ true → Alone kind x → Run kind x a → LegalFrom kind (groupOf x + 1) b → Obeys (x ∷ (a ++ b))
+      → Obeys b × (may (isEnd b) (componentsOf (x ∷ a)) (leftsIn (x ∷ a)) ≡ true)
+  pub joins : (x : Placed) (a b : List Placed) → left x ≡ true → Run kind x a → LegalFrom kind (groupOf x + 1) b → Obeys b
+      → may (isEnd b) (componentsOf (x ∷ a)) (leftsIn (x ∷ a)) ≡ true → Obeys (x ∷ (a ++ b))
+
+-- A legal folding that obeys.
+pub record LegalBy (kind : Kind) (Obeys : List Placed → Type 0) (cs : List Component) (ps : List Placement) : Type 0 where
+  pub is-legal : Legal kind cs ps
+  pub obeys : Obeys (placedOf cs ps)
+
+module _ {kind : Kind} {may : Bool → May} {Obeys : List Placed → Type 0} (agrees : Agrees kind may Obeys) where
+  abbrev Legally : Rule Component
+  Legally = legalGroup kind may
+
   abbrev Standing : ℕ → ℕ → List (Group Component) → Type 0
-  Standing m g0 gs = Stands (λ x. gap x) (legalGroup kind) m g0 gs
+  Standing m g0 gs = Stands (λ x. gap x) Legally m g0 gs
 
   -- A legal folding is a layout: it is cut where a group ends.
   record Cut (m g0 : ℕ) (l : List Placed) : Type 0 where
@@ -68,12 +99,17 @@ module _ (kind : Kind) where
         height = ap (groupHeight g0) q;
       }
 
-  cut-step : (g0 : ℕ) (x : Placed) (a b : List Placed) → left x ≡ true → Alone kind x → Run kind x a → LegalFrom kind (groupOf x + 1) b → Cut (groupOf x + 1) (lastGap (x ∷ a)) b
+  first-stands : (x : Placed) (a b : List Placed) (gs : List (Group Component)) → membersOf gs ≡ componentsOf b → may (isEnd b) (componentsOf (x ∷ a)) (leftsIn (x ∷ a)) ≡ true
+      → may (isEnd (membersOf gs)) (componentsOf (x ∷ a)) (leftsIn (placedOf (componentsOf (x ∷ a)) (placementsIn (x ∷ a)))) ≡ true
+  first-stands x a b gs h t = rw (h, components-end b, placed-again (x ∷ a)) t
+
+  cut-step : (g0 : ℕ) (x : Placed) (a b : List Placed) → left x ≡ true → Alone kind x → Run kind x a → LegalFrom kind (groupOf x + 1) b
+      → may (isEnd b) (componentsOf (x ∷ a)) (leftsIn (x ∷ a)) ≡ true → Cut (groupOf x + 1) (lastGap (x ∷ a)) b
       → Cut (groupOf x) g0 (x ∷ (a ++ b))
-  cut-step g0 x a b l e r f c = record {
+  cut-step g0 x a b l e r f t c = record {
     groups = record { members = componentsOf (x ∷ a); width = groupWidth (x ∷ a); height = groupHeight g0 (x ∷ a) } ∷ c .groups;
     stands = (
-      (placementsIn (x ∷ a), first-group g0 x a l e r),
+      (placementsIn (x ∷ a), first-group g0 x a l e r, first-stands x a b (c .groups) (c .holds) t),
       subst (λ (g : ℕ). Standing (groupOf x + 1) g (c .groups)) (last-gap (x ∷ a)) (c .stands),
     );
     holds = rw (c .holds) (sym (components-append (x ∷ a) b));
@@ -81,40 +117,68 @@ module _ (kind : Kind) where
     height = rw (c .height) (sym (paste-height kind g0 x a b r f));
   }
 
-  cuts : (n m g0 : ℕ) (l : List Placed) → length l ≤ n → LegalFrom kind m l → Cut m g0 l
+  cuts : (n m g0 : ℕ) (l : List Placed) → length l ≤ n → LegalFrom kind m l → Obeys l → Cut m g0 l
   unfolding groupsOf layoutWidth layoutHeight
-  cuts zero m g0 [] d f = record { groups = []; stands = tt; holds = refl; width = refl; height = refl }
-  cuts zero m g0 (x ∷ l) d f = absurd (omega arith)
-  cuts (suc n) m g0 [] d f = record { groups = []; stands = tt; holds = refl; width = refl; height = refl }
-  cuts (suc n) m g0 (x ∷ l) d f =
+  cuts zero m g0 [] d f o = record { groups = []; stands = tt; holds = refl; width = refl; height = refl }
+  cuts zero m g0 (x ∷ l) d f o = absurd (omega arith)
+  cuts (suc n) m g0 [] d f o = record { groups = []; stands = tt; holds = refl; width = refl; height = refl }
+  cuts (suc n) m g0 (x ∷ l) d f o =
       let c = cut kind x l (f .3) in
-      go (c .mates) (c .later) (c .splits) (c .run) (c .rest) (λ g b e t. cuts n (groupOf x + 1) g b e t)
+      go (c .mates) (c .later) (c .splits) (c .run) (c .rest) (λ g b e t u. cuts n (groupOf x + 1) g b e t u)
     where
       go : (a b : List Placed) → l ≡ a ++ b → Run kind x a → LegalFrom kind (groupOf x + 1) b
-          → ((g : ℕ) (b : List Placed) → length b ≤ n → LegalFrom kind (groupOf x + 1) b → Cut (groupOf x + 1) g b) → Cut m g0 (x ∷ l)
+          → ((g : ℕ) (b : List Placed) → length b ≤ n → LegalFrom kind (groupOf x + 1) b → Obeys b → Cut (groupOf x + 1) g b) → Cut m g0 (x ∷ l)
       go a b e r t i =
           let z : length l ≡ length a + length b = ap length e ∙ length-append a b in
-          rw (e, sym (f .0)) (cut-step g0 x a b (f .1) (f .2) r t (i (lastGap (x ∷ a)) b (omega arith) t))
+          let u = agrees .cuts x a b (f .1) (f .2) r t (rw e at o) in
+          rw (e, sym (f .0)) (cut-step g0 x a b (f .1) (f .2) r t (u .1) (i (lastGap (x ∷ a)) b (omega arith) t (u .0)))
 
   -- A layout is a legal folding: its groups are put one behind the other.
-  joins : (m g0 : ℕ) (gs : List (Group Component)) → Standing m g0 gs → (ps : List Placement) × Folds kind m g0 (membersOf gs) ps (widthOf gs) (heightOf gs)
-  joins m g0 [] s = ([], folds-none kind m g0)
-  joins m g0 (g ∷ gs) s =
-      let r = joins (m + 1) (gapAfter (g .members)) gs (s .1) in
-      (s .0 .0 ++ r .0, folds-join kind m g0 (g .members) (s .0 .0) (g .width) (g .height) (membersOf gs) (r .0) (widthOf gs) (heightOf gs) (s .0 .1) (r .1))
+  join-obeys : (m : ℕ) (g cs : List Component) (ps qs : List Placement) → length ps ≡ length g → length qs ≡ length cs → Fronted kind m (placedOf g ps)
+      → LegalFrom kind (m + 1) (placedOf cs qs) → may (isEnd cs) g (leftsIn (placedOf g ps)) ≡ true → Obeys (placedOf cs qs) → Obeys (placedOf (g ++ cs) (ps ++ qs))
+  join-obeys m g cs ps qs n k f t w o =
+      let b = placedOf cs qs in
+      let z : componentsOf (f .first ∷ f .mates) ≡ g = ap componentsOf (sym (f .order)) ∙ components-placed g ps n in
+      rw (placed-append g ps cs qs n, f .order)
+      (agrees .joins (f .first) (f .mates) b (f .on-left) (f .run) (rw (f .numbered) t) o
+      (rw (z, placed-end cs qs k) (subst (λ (l : List Placed). may (isEnd cs) g (leftsIn l) ≡ true) (f .order) w)))
 
-  legal-layout : (cs : List Component) (ps : List Placement) → Legal kind cs ps
-      → (gs : List (Group Component)) × LayoutOf (λ x. gap x) (legalGroup kind) cs gs × (outline (widthOf gs) (heightOf gs) ≡ outlineOf cs ps)
+  joined : (m g0 : ℕ) (gs : List (Group Component)) → Standing m g0 gs
+      → (ps : List Placement) × Folds kind m g0 (membersOf gs) ps (widthOf gs) (heightOf gs) × Obeys (placedOf (membersOf gs) ps)
+  unfolding placedOf
+  joined m g0 [] s = ([], folds-none kind m g0, agrees .nothing)
+  joined m g0 (g ∷ gs) s =
+      let r = joined (m + 1) (gapAfter (g .members)) gs (s .1) in (
+        s .0 .0 ++ r .0,
+        folds-join kind m g0 (g .members) (s .0 .0) (g .width) (g .height) (membersOf gs) (r .0) (widthOf gs) (heightOf gs) (s .0 .1) (r .1),
+        join-obeys m (g .members) (membersOf gs) (s .0 .0) (r .0) (s .0 .1 .whole) (r .1 .whole) (s .0 .1 .group) (r .1 .legal) (s .0 .2) (r .2),
+      )
+
+  legal-layout : (cs : List Component) (ps : List Placement) → LegalBy kind Obeys cs ps
+      → (gs : List (Group Component)) × LayoutOf (λ x. gap x) Legally cs gs × (outline (widthOf gs) (heightOf gs) ≡ outlineOf cs ps)
   legal-layout cs ps l =
-      let c = cuts (length (placedOf cs ps)) 0 0 (placedOf cs ps) (omega arith) (legal-is kind (placedOf cs ps) (l .rules)) in
-      (c .groups, record { stands = c .stands; holds = c .holds ∙ components-placed cs ps (l .whole) }, rw (c .width, c .height))
+      let c = cuts (length (placedOf cs ps)) 0 0 (placedOf cs ps) (omega arith) (legal-is kind (placedOf cs ps) (l .is-legal .rules)) (l .obeys) in
+      (c .groups, record { stands = c .stands; holds = c .holds ∙ components-placed cs ps (l .is-legal .whole) }, rw (c .width, c .height))
 
-  layout-legal : (cs : List Component) (gs : List (Group Component)) → LayoutOf (λ x. gap x) (legalGroup kind) cs gs
-      → (ps : List Placement) × Legal kind cs ps × (outlineOf cs ps ≡ outline (widthOf gs) (heightOf gs))
+  layout-legal : (cs : List Component) (gs : List (Group Component)) → LayoutOf (λ x. gap x) Legally cs gs
+      → (ps : List Placement) × LegalBy kind Obeys cs ps × (outlineOf cs ps ≡ outline (widthOf gs) (heightOf gs))
   layout-legal cs gs l =
-      let r = joins 0 0 gs (l .stands) in
+      let r = joined 0 0 gs (l .stands) in
       let f = subst (λ (k : List Component). Folds kind 0 0 k (r .0) (widthOf gs) (heightOf gs)) (l .holds) (r .1) in
-      (r .0, record { whole = f .whole; rules = legal-of kind (placedOf cs (r .0)) (f .legal) }, rw (f .width, f .height))
+      let o = subst (λ (k : List Component). Obeys (placedOf k (r .0))) (l .holds) (r .2) in
+      (r .0, record { is-legal = record { whole = f .whole; rules = legal-of kind (placedOf cs (r .0)) (f .legal) }; obeys = o }, rw (f .width, f .height))
 
-  pub search : (cs : List Component) → Stacked cs → Search (Legal kind cs) (outlineOf cs) (λ limit. layoutOf kind limit 0 cs)
-  search cs s = transfer (legal-layout cs) (layout-legal cs) (layouts-search (groups-laws kind) cs (s .some) (s .good))
+  pub search-by : (cs : List Component) → Stacked cs → Search (LegalBy kind Obeys cs) (outlineOf cs) (λ limit. layoutFor (groupsBy may) limit 0 cs)
+  search-by cs s = transfer (legal-layout cs) (layout-legal cs) (layouts-search (groups-laws kind may (agrees .fits)) cs (s .some) (s .good))
+
+-- Document 01 has no rule beside those of `LegalFrom`, and every way of a legal group is allowed.
+no-more : (kind : Kind) → Agrees kind (λ last. mayStand kind) (λ l. Unit {0})
+no-more kind = record {
+  fits = λ last. suits kind;
+  nothing = tt;
+  cuts = λ x a b l e r f o. (tt, stands-allowed kind (componentsOf (x ∷ a)) (leftsIn (x ∷ a)) (group-stands kind x a l e r));
+  joins = λ x a b l r f o w. tt;
+}
+
+pub search : (kind : Kind) (cs : List Component) → Stacked cs → Search (Legal kind cs) (outlineOf cs) (λ limit. layoutOf kind limit 0 cs)
+search kind cs s = transfer (λ ps l. (ps, record { is-legal = l; obeys = tt }, refl)) (λ ps l. (ps, l .is-legal, refl)) (search-by (no-more kind) cs s)

@@ -15,7 +15,7 @@ use Rattle.folding.proofs.Groups.{paste, paste-width, paste-height}
 use Rattle.folding.proofs.Sides.{Fronted}
 use Rattle.group.specs.Group.{gapAfter}
 use Rattle.group.proofs.Exact.{GroupFolds}
-use Rattle.group.proofs.Laws.{gap-last}
+use Rattle.group.proofs.Placed.{gap-last}
 
 -- A folding, with group numbers from m on, of components behind a gap of g0.
 pub record Folds (kind : Kind) (m g0 : ℕ) (cs : List Component) (ps : List Placement) (w h : ℕ) : Type 0 where

@@ -2,24 +2,28 @@
 -- Nothing here is part of a public promise: `proofs/` shows what it comes to against every legal folding.
 use Prim.Native.Nat.{ℕ}
 use mathlib.Core.List.{List}
-use mathlib.Core.Bool.{true}
+use mathlib.Core.Bool.{Bool, true}
 use Rattle.terms.specs.declared.Component.{Component}
 use Rattle.terms.specs.declared.Kind.{Kind}
 use Rattle.model.specs.Groups.{Model}
 use Rattle.model.specs.Layout.{scanBy, layoutsBy, candidateFor, layoutFor}
 use Rattle.group.specs.Rows.{gap}
-use Rattle.group.specs.Group.{leastHeight, leastWidth}
+use Rattle.group.specs.Group.{May, mayStand, leastHeightBy, leastWidthBy}
 pub use Rattle.model.specs.Layout.{Layout, unmet, empty, better, choice}
+
+-- Groups by a rule of standing, which may ask whether the group stands last.
+abbrev pub groupsBy : (Bool → May) → Model Component
+groupsBy may = record {
+  gap = λ x. gap x;
+  width = λ limit g0 last cs. leastWidthBy (may last) g0 cs limit;
+  height = λ limit g0 last cs. leastHeightBy (may last) g0 cs (leastWidthBy (may last) g0 cs limit);
+}
 
 -- The groups of document 01. It does not matter to them whether a group stands last.
 abbrev pub groups : Kind → Model Component
-groups kind = record {
-  gap = λ x. gap x;
-  width = λ limit g0 last cs. leastWidth kind g0 cs limit;
-  height = λ limit g0 last cs. leastHeight kind g0 cs (leastWidth kind g0 cs limit);
-}
+groups kind = groupsBy (λ last. mayStand kind)
 
--- The parts of the recurrence, by the kind. What is said of a candidate holds wherever its group stands.
+-- The parts of the recurrence, by the kind. A candidate is told that its group stands last: these groups do not ask.
 abbrev pub candidate : Kind → ℕ → ℕ → List Component → Layout → ℕ → Layout
 candidate kind limit g0 group rest k = candidateFor (groups kind) limit g0 true group rest k
 

@@ -15,7 +15,7 @@ use Rattle.model.specs.Laws.{Laws}
 use Rattle.model.specs.Outlines.{outline}
 use Rattle.model.specs.Search.{Search}
 use Rattle.model.proofs.Layouts.{layouts-search}
-use Rattle.model.specs.Example.{mayStand, pairs, Few, Pair}
+use Rattle.model.specs.Example.{mayStand, pairs, Few, PairRule}
 
 no-gap : (cs : List ℕ) → gapBehind {C = ℕ} (λ x. 0) cs ≤ 4000
 unfolding gapBehind
@@ -34,7 +34,7 @@ width-met last cs limit e h = rw (e, le-leb (length cs) limit h)
 met-both : (last : Bool) (cs : List ℕ) (limit : ℕ) → cond (mayStand last cs && leb (length cs) limit) 1 none < none → (mayStand last cs ≡ true) × (length cs ≤ limit)
 met-both last cs limit h = let b = both (mayStand last cs) (leb (length cs) limit) (met _ h) in (b .0, leb-true _ _ (b .1))
 
-pub pairs-laws : Laws pairs Few Pair
+pub pairs-laws : Laws pairs Few PairRule
 pairs-laws = record {
   parts = λ a b s. let n = length-append a b in (omega arith, omega arith);
   few = λ cs s. s;
@@ -53,7 +53,7 @@ pairs-laws = record {
 }
 
 -- So the recurrence finds the best of all layouts of them.
-pub pairs-search : (cs : List ℕ) → 0 < length cs → Few cs → Search (LayoutOf (λ x. 0) Pair cs) (λ gs. outline (widthOf gs) (heightOf gs)) (λ limit. layoutFor pairs limit 0 cs)
+pub pairs-search : (cs : List ℕ) → 0 < length cs → Few cs → Search (LayoutOf (λ x. 0) PairRule cs) (λ gs. outline (widthOf gs) (heightOf gs)) (λ limit. layoutFor pairs limit 0 cs)
 pairs-search = layouts-search pairs-laws
 
 -- Within one row two components would have to stand one by one, and the first is not the last.

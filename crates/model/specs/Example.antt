@@ -22,5 +22,5 @@ pairs = record {
 abbrev pub Few : List ℕ → Type 0
 Few cs = length cs ≤ mostApart
 
-abbrev pub Pair : Rule ℕ
-Pair m g0 last cs w h = (0 < length cs) × (mayStand last cs ≡ true) × (w ≡ 1) × (h ≡ length cs)
+abbrev pub PairRule : Rule ℕ
+PairRule m g0 last cs w h = (0 < length cs) × (mayStand last cs ≡ true) × (w ≡ 1) × (h ≡ length cs)

@@ -5,7 +5,7 @@ use mathlib.Core.Path.{_≡_}
 use mathlib.Core.List.{List, [], _∷_, _++_}
 use mathlib.Core.Bool.{Bool, true, false}
 
--- A number over all widths, heights and limits: there is none.
+-- A number over all widths and heights, and over every limit that a call takes: there is none.
 abbrev pub none : ℕ
 none = 4000000
 
@@ -51,7 +51,8 @@ abbrev pub heightOf : {C : Type 0} → List (Group C) → ℕ
 heightOf [] = 0
 heightOf (g ∷ gs) = max (g .height) (heightOf gs)
 
--- Each group may stand where it stands; m is the number of the first.
+-- Each group may stand where it stands; m is the number of the first. No group is empty, so one behind which no component
+-- is left stands last.
 abbrev pub Stands : {C : Type 0} → (C → ℕ) → Rule C → ℕ → ℕ → List (Group C) → Type 0
 Stands gap Allowed m g0 [] = Unit {0}
 Stands gap Allowed m g0 (g ∷ gs) =

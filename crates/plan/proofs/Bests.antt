@@ -9,6 +9,8 @@ use Rattle.terms.specs.declared.Component.{Component}
 use Rattle.terms.specs.declared.Kind.{Kind}
 use Rattle.terms.specs.declared.Kind.the-variants.{Apart, Nested}
 use Rattle.group.specs.Rows.{tall}
+use Rattle.group.specs.Group.{mayStand}
+use Rattle.group.proofs.Ways.{suits}
 use Rattle.model.specs.Layout.{scanBy, layoutsBy, candidateFor}
 use Rattle.model.proofs.Choice.{Fair}
 use Rattle.model.proofs.Scan.{scan-fair}
@@ -37,7 +39,7 @@ module _ (kind : Kind) (limit g0 : ℕ) (cs : List Component) where
       (getD-drop 1 (layouts kind limit g0 cs) k unmet ∙ ap (λ (z : ℕ). getD (layouts kind limit g0 cs) z unmet) (omega arith))
 
   pub best-stop : (j k : ℕ) → k ≤ j → mostRows kind limit < tall (take (suc k) cs) → bestTo kind limit g0 cs j ≡ bestTo kind limit g0 cs k
-  best-stop j k h t = scan-stop kind limit g0 cs (drop 1 (layouts kind limit g0 cs)) k j (too-tall kind limit (take (suc k) cs) t) h
+  best-stop j k h t = scan-stop kind (λ last. mayStand kind) (λ last. suits kind) limit g0 cs (drop 1 (layouts kind limit g0 cs)) k (too-tall kind limit (take (suc k) cs) t) j h
 
 pub best-of-all : (kind : Kind) (limit g0 : ℕ) (cs : List Component) → 0 < length cs → bestTo kind limit g0 cs (length cs) ≡ layoutOf kind limit g0 cs
 unfolding layoutsBy

@@ -12,8 +12,9 @@ use Rattle.terms.specs.declared.Kind.{Kind}
 use Rattle.terms.specs.declared.Kind.the-variants.{Apart, Nested}
 use Rattle.terms.specs.Component.{componentIn, componentsIn}
 use Rattle.group.specs.Rows.{tall}
-use Rattle.group.specs.Group.{none, gapAfter, widest, flatHeight, leastWidth}
+use Rattle.group.specs.Group.{none, gapAfter, widest, flatHeight, mayStand, leastWidth}
 use Rattle.terms.proofs.Order.{order}
+use Rattle.group.proofs.Ways.{SomeWay, suits, some-way}
 use Rattle.group.proofs.Falls.{apart-height}
 use Rattle.group_height.specs.Heights.{WidthAsks, Narrow}
 use Rattle.layout.specs.Layout.{Layout, groups, candidate, choice}
@@ -49,23 +50,23 @@ module _ {kind : Kind} {limit g0 wide : ℕ} {hs ws gs : List ℕ} {best rest : 
 -- Without a fold.
 module _ {limit g0 wide : ℕ} {hs ws gs : List ℕ} {best rest : Best} (a : GroupAsks Apart limit g0 wide hs ws gs best rest) (rows last : ℕ)
     (t : rows ≡ tall (componentsIn hs ws gs)) (l : last ≡ getD gs (length hs - 1) 0) where
-  some-in : 0 < length (componentsIn hs ws gs)
-  some-in = omega (arith, components-length hs ws gs, a .some)
+  some-in : SomeWay (mayStand Apart) (componentsIn hs ws gs)
+  some-in = some-way Apart (componentsIn hs ws gs) (omega (arith, components-length hs ws gs, a .some))
 
   flat : flatHeight g0 (componentsIn hs ws gs) ≡ rows + g0 + last
   flat = omega (arith, gap-end hs ws gs (a .some))
 
   pub flat-high : limit < rows + g0 + last → layoutIn best ≡ choice (candidate Apart limit g0 (componentsIn hs ws gs) (layoutIn rest) (length hs)) (layoutIn best)
   flat-high h =
-      sym (rw (group-unmet (groups Apart) limit g0 true (componentsIn hs ws gs) (layoutIn rest) (length hs) (omega (arith, apart-unmet g0 (componentsIn hs ws gs) limit some-in (omega (arith, flat)))))
+      sym (rw (group-unmet (groups Apart) limit g0 true (componentsIn hs ws gs) (layoutIn rest) (length hs) (omega (arith, apart-unmet (mayStand Apart) (suits Apart) g0 (componentsIn hs ws gs) limit some-in (omega (arith, flat)))))
       (choice-unmet (layoutIn best) (a .fair)))
 
   pub flat-tried : (r : Layout) (height end : ℕ) → rows + g0 + last ≤ limit → rest .width .0 < none → height ≡ max (rows + g0 + last) (rest .height .0) → end ≡ length hs
       → r ≡ choice (record { width = wide + rest .width .0; height = height; end = end }) (layoutIn best)
       → r ≡ choice (candidate Apart limit g0 (componentsIn hs ws gs) (layoutIn rest) (length hs)) (layoutIn best)
   flat-tried r height end h o eh ee er =
-      let w : leastWidth Apart g0 (componentsIn hs ws gs) limit ≡ widest (componentsIn hs ws gs) = apart-met g0 (componentsIn hs ws gs) limit some-in (omega (arith, flat)) in
-      rw (candidate-is (groups Apart) limit g0 true (componentsIn hs ws gs) (layoutIn rest) (length hs) (omega (arith, w, widest-4000 Apart hs ws gs (a .lists))) o, w, apart-height g0 (componentsIn hs ws gs) (widest (componentsIn hs ws gs)) some-in, flat, ← a .widest-is, ← eh, ← ee) er
+      let w : leastWidth Apart g0 (componentsIn hs ws gs) limit ≡ widest (componentsIn hs ws gs) = apart-met (mayStand Apart) (suits Apart) g0 (componentsIn hs ws gs) limit some-in (omega (arith, flat)) in
+      rw (candidate-is (groups Apart) limit g0 true (componentsIn hs ws gs) (layoutIn rest) (length hs) (omega (arith, w, widest-4000 Apart hs ws gs (a .lists))) o, w, apart-height (mayStand Apart) g0 (componentsIn hs ws gs) (widest (componentsIn hs ws gs)) some-in (suits Apart), flat, ← a .widest-is, ← eh, ← ee) er
 
 -- With the fold that makes it narrowest.
 module _ {limit g0 wide : ℕ} {hs ws gs : List ℕ} {best rest : Best} (a : GroupAsks Nested limit g0 wide hs ws gs best rest) where
@@ -89,7 +90,7 @@ module _ {limit g0 wide : ℕ} {hs ws gs : List ℕ} {best rest : Best} (a : Gro
 
   pub folds-wide : best .width .0 < rest .width .0 + wide → layoutIn best ≡ choice (candidate Nested limit g0 (componentsIn hs ws gs) (layoutIn rest) (length hs)) (layoutIn best)
   folds-wide h =
-      sym (skip-widest Nested limit g0 (componentsIn hs ws gs) (layoutIn rest) (length hs) (layoutIn best) (a .fair) (omega (arith, a .widest-is)))
+      sym (skip-widest (λ last. mayStand Nested) limit g0 true (componentsIn hs ws gs) (layoutIn rest) (length hs) (layoutIn best) (a .fair) (omega (arith, a .widest-is)))
 
   module _ (cap nw nh : ℕ) (o : rest .width .0 < none) (q : rest .width .0 + wide ≤ best .width .0) (e : cap ≡ min (2 * wide) (best .width .0 - rest .width .0)) (n : Narrow g0 hs ws gs limit cap nw nh) where
     pub folds-none : none ≤ nw → layoutIn best ≡ choice (candidate Nested limit g0 (componentsIn hs ws gs) (layoutIn rest) (length hs)) (layoutIn best)
@@ -98,7 +99,7 @@ module _ {limit g0 wide : ℕ} {hs ws gs : List ℕ} {best rest : Best} (a : Gro
         go : (w ≤ cap) ⊎ (cap < w) → choice (candidate Nested limit g0 (componentsIn hs ws gs) (layoutIn rest) (length hs)) (layoutIn best) ≡ layoutIn best
         go (inl p) = absurd (omega (arith, n .within p .0, wide-4000 a))
         go (inr p) =
-            skip-both Nested limit g0 (componentsIn hs ws gs) (layoutIn rest) (length hs) (layoutIn best) (a .fair) cap (omega (arith, a .widest-is)) (omega arith) p
+            skip-both (λ last. mayStand Nested) limit g0 true (componentsIn hs ws gs) (layoutIn rest) (length hs) (layoutIn best) (a .fair) cap (omega (arith, a .widest-is)) (omega arith) p
 
     pub folds-tried : (r : Layout) (height end : ℕ) → nw < none → height ≡ max nh (rest .height .0) → end ≡ length hs
         → r ≡ choice (record { width = nw + rest .width .0; height = height; end = end }) (layoutIn best)

@@ -15,12 +15,13 @@ use Rattle.model.specs.Layout.{candidateFor}
 use Rattle.model.proofs.Scan.{layouts-drop, layouts-at}
 use Rattle.model.proofs.First.{restFor, FirstGroup, first-group}
 use Rattle.group.specs.Rows.{gap}
-use Rattle.group.specs.Group.{none, gapAfter, leastHeight, leastWidth, FoldPoint, groupPlaces}
+use Rattle.group.specs.Group.{none, gapAfter, mayStand, leastHeight, leastWidth, FoldPoint, groupPlaces}
 use Rattle.folding.specs.Placement.{flatOf}
 use Rattle.folding.proofs.Flat.{flat-length}
 use Rattle.group_trace.proofs.Flat.{placements-flat}
 use Rattle.layout.specs.Layout.{Layout, unmet, groups, layouts, layoutOf}
 use Rattle.layout.specs.Plan.{PlannedAt, Planned}
+use Rattle.group.proofs.Ways.{suits}
 use Rattle.group.proofs.Exact.{least-reached}
 use Rattle.layout.proofs.Groups.{sized-parts}
 use Rattle.layout.proofs.Folds.{Folds, folds-join}
@@ -88,7 +89,7 @@ module _ (kind : Kind) (limit g0 : ℕ) (cs : List Component) (widths heights en
         → Folds kind group g0 cs (groupPlaces (getD widths 0 0 - getD widths k 0) (take k cs) group p ++ qs) (layoutOf kind limit g0 cs .width) (layoutOf kind limit g0 cs .height)
     joined group p qs f r =
         let w = leastWidth kind g0 (take k cs) limit in
-        let g = least-reached kind g0 (take k cs) limit (omega (arith, group-long, k-some)) (omega (arith, group-long, k-within)) (sized-parts (take k cs) (drop k cs) (rw (take-append-drop k cs) s) .0) group-met group p (rw cap-is at f) in
+        let g = least-reached (mayStand kind) kind (suits kind) g0 (take k cs) limit (omega (arith, group-long, k-within)) (sized-parts (take k cs) (drop k cs) (rw (take-append-drop k cs) s) .0) group-met group p (rw cap-is at f) in
         let j = folds-join kind group g0 (take k cs) (groupPlaces w (take k cs) group p) w (leastHeight kind g0 (take k cs) w) (drop k cs) qs _ _ g r in
         rw (cap-is, rw k-is at (first .width), rw k-is at (first .height)) (rw (take-append-drop k cs) at j)
 

@@ -9,8 +9,9 @@ use Rattle.terms.specs.declared.Kind.{Kind}
 use Rattle.terms.specs.declared.Kind.the-variants.{Apart, Nested}
 use Rattle.terms.specs.Component.{componentsIn}
 use Rattle.terms.proofs.Answers.{most-256}
-use Rattle.group.specs.Group.{FoldPoint}
+use Rattle.group.specs.Group.{mayStand, FoldPoint}
 use Rattle.group.specs.Table.{Filled}
+use Rattle.group.proofs.Ways.{suits, some-way}
 use Rattle.group.proofs.Falls.{apart-point}
 use Rattle.group_table.specs.Table.{Asks}
 use Rattle.group_height.specs.Heights.{HeightAsks}
@@ -22,7 +23,7 @@ module _ (kind : Kind) (g0 cap : ℕ) (hs ws gs work : List ℕ) (a : GroupAsks 
   pub apart-found : kind ≡ Apart → FoldFound kind g0 cap hs ws gs work (length hs)
   apart-found e =
       let n = components-length hs ws gs in
-      record { point = rw e (rw n at (apart-point g0 (componentsIn hs ws gs) cap (omega (arith, n, a .some)))); table = λ h. absurd (omega arith) }
+      record { point = rw e (rw n at (apart-point (mayStand Apart) g0 (componentsIn hs ws gs) cap (some-way Apart (componentsIn hs ws gs) (omega (arith, n, a .some))) (suits Apart))); table = λ h. absurd (omega arith) }
 
   few-nested : kind ≡ Nested → length hs ≤ 64
   few-nested e = rw e at (a .lists .few)
