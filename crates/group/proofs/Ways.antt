@@ -124,9 +124,11 @@ module _ (may : May) (cs : List Component) where
 
   -- The least width where some way is allowed; and where there is one, some way is.
   pub width-is : (g0 limit : ℕ) → SomeWay may cs → leastWidthBy may g0 cs limit ≡ leastCap may g0 cs limit
+  unfolding leastWidthBy
   width-is g0 limit e = rw e
 
   pub width-some : (g0 limit : ℕ) → leastWidthBy may g0 cs limit < none → SomeWay may cs
+  unfolding leastWidthBy
   width-some g0 limit = go (isEnd (waysOf may cs))
     where
       go : (b : Bool) → cond b none (leastCap may g0 cs limit) < none → b ≡ false

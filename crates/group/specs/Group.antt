@@ -79,7 +79,7 @@ abbrev pub leastCap : May → ℕ → List Component → ℕ → ℕ
 leastCap may g0 cs limit = firstFrom (leastHeightBy may g0 cs) limit (widest cs) (suc (widest cs))
 
 -- Where no way is allowed there is no width, at limits of `none` and over too.
-abbrev pub leastWidthBy : May → ℕ → List Component → ℕ → ℕ
+unfoldable pub leastWidthBy : May → ℕ → List Component → ℕ → ℕ
 leastWidthBy may g0 cs limit = cond (isEnd (waysOf may cs)) none (leastCap may g0 cs limit)
 
 -- A way that is allowed and in which the group is as low as it can be.

@@ -23,7 +23,7 @@ use Rattle.model.specs.Layout.{scanBy, layoutsBy}
 use Rattle.model.specs.Outlines.{outlinesBy}
 use Rattle.model.proofs.Best.{Below, unmeetable-height, unmeetable-width}
 use Rattle.group.specs.Rows.{tall, rows}
-use Rattle.group.specs.Group.{none, widest, mayStand, ways, lowest, leastHeightBy, firstFrom}
+use Rattle.group.specs.Group.{none, widest, mayStand, ways, lowest, leastHeightBy, firstFrom, leastWidthBy}
 use Rattle.layout.specs.Layout.{Layout, layoutOf}
 use Rattle.layout.specs.Table.{outline, outlines}
 use Rattle.layout.proofs.Bounds.{all-gaps}
@@ -63,7 +63,7 @@ AllComputed [] = Unit {0}
 AllComputed (l ∷ ls) = Computed l × AllComputed ls
 
 computed : AllComputed lines
-unfolding lines headerOf tall rows gapBehind widest mayStand ways lowest leastHeightBy firstFrom scanBy layoutsBy outlinesBy stackOf every units
+unfolding lines headerOf tall rows gapBehind widest mayStand ways lowest leastHeightBy firstFrom leastWidthBy scanBy layoutsBy outlinesBy stackOf every units
 computed =
     ((refl, refl), ((refl, refl), ((refl, refl), ((refl, refl), ((refl, refl, refl), ((refl, refl, refl), ((refl, refl), ((refl, refl, refl, refl), ((refl, refl), ((refl, refl), ((refl, refl), ((refl, refl), ((refl, refl), ((refl, refl, refl, refl), ((refl, refl), ((refl, refl), ((refl, refl), (refl, (refl, (refl, (refl, (refl, (refl, (refl, (refl, (refl, (refl, (refl, (refl, (refl, (refl, (refl, (refl, (refl, (refl, (refl, (refl, (refl, (refl, (refl, (refl, (refl, (refl, (refl, (refl, (refl, (refl, tt)))))))))))))))))))))))))))))))))))))))))))))))
 

@@ -26,6 +26,7 @@ module _ (may : May) (g0 : ℕ) (cs : List Component) (limit : ℕ) where
   found-range w (inr e) = inr (e .0, omega (arith, e .1), e .2)
 
   pub least-range : Ranged may g0 cs limit (leastWidthBy may g0 cs limit)
+  unfolding leastWidthBy
   least-range = go (isEnd (waysOf may cs))
     where
       go : (b : Bool) → Ranged may g0 cs limit (cond b none (leastCap may g0 cs limit))
@@ -46,6 +47,7 @@ module _ (may : May) (kind : Kind) (suits : Suits kind may) (limit g0 : ℕ) (cs
       go Nested s t = omega (arith, two-sides may g0 cs cap some)
 
   pub too-tall-none : leastWidthBy may g0 cs limit ≡ none
+  unfolding leastWidthBy
   too-tall-none = go (isEnd (waysOf may cs)) refl
     where
       go : (b : Bool) → isEnd (waysOf may cs) ≡ b → cond b none (leastCap may g0 cs limit) ≡ none
