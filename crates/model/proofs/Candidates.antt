@@ -32,7 +32,7 @@ module _ {C : Type 0} (model : Model C) (limit g0 : ℕ) (last : Bool) (group : 
   pub group-unmet : none ≤ width → candidateFor model limit g0 last group rest k ≡ unmet
   group-unmet h = rw (le-ltb width none h)
 
-  rest-unmet : none ≤ rest .width → candidateFor model limit g0 last group rest k ≡ unmet
+  pub rest-unmet : none ≤ rest .width → candidateFor model limit g0 last group rest k ≡ unmet
   rest-unmet h = rw (le-ltb (rest .width) none h, and-none (ltb width none))
 
   module _ (b : Layout) (f : Fair b) where

@@ -39,7 +39,7 @@ better-true a b e = go (one-of (ltb (a .width) (b .width)) (eqb (a .width) (b .w
         let l : a .height < b .height = ltb-true _ _ (q .1) in
         inr (eqb-true _ _ (q .0), omega arith)
 
-better-false : (a b : Layout) → better a b ≡ false → NoWorse b (a .width) (a .height)
+pub better-false : (a b : Layout) → better a b ≡ false → NoWorse b (a .width) (a .height)
 better-false a b e = go (order (b .width) (a .width)) (order (a .width) (b .width)) (order (b .height) (a .height))
   where
     go : (b .width ≤ a .width) ⊎ (a .width < b .width) → (a .width ≤ b .width) ⊎ (b .width < a .width) → (b .height ≤ a .height) ⊎ (a .height < b .height)
@@ -57,6 +57,14 @@ and-none false = refl
 not-better : (a b : Layout) → NoWorse b (a .width) (a .height) → better a b ≡ false
 not-better a b (inl p) = rw (le-ltb (a .width) (b .width) (omega arith), ne-eqb (a .width) (b .width) (λ e. omega arith))
 not-better a b (inr p) = rw (le-ltb (a .width) (b .width) (omega (arith, p .0)), le-ltb (a .height) (b .height) (p .1)) (and-none (eqb (a .width) (b .width)))
+
+-- What is better than b is better than all that b is no worse than.
+pub better-still : (a b c : Layout) → better a b ≡ true → NoWorse b (c .width) (c .height) → better a c ≡ true
+better-still a b c e n = go (either (better a c))
+  where
+    go : (better a c ≡ true) ⊎ (better a c ≡ false) → better a c ≡ true
+    go (inl p) = p
+    go (inr p) = absurd (true≢false (sym e ∙ not-better a b (no-worse-trans b c _ _ n (better-false a c p))))
 
 -- The chosen one is one of the two, and no worse than either.
 pub choice-first : (a b : Layout) → better a b ≡ true → choice a b ≡ a

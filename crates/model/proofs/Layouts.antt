@@ -19,7 +19,7 @@ use Rattle.model.proofs.Recurrence.{restOf, front-no-worse, Extends, ev
 use Rattle.model.proofs.Candidates.{candidate-is, candidate-met}
 
 -- A first group in front of a rest of which it holds already.
-joined-no-worse : {C : Type 0} (model : Model C) (limit g0 : ℕ) (last : Bool) (group : List C) (rest : Layout) (k w h w′ h′ : ℕ)
+pub joined-no-worse : {C : Type 0} (model : Model C) (limit g0 : ℕ) (last : Bool) (group : List C) (rest : Layout) (k w h w′ h′ : ℕ)
     → (model .width limit g0 last group < w) ⊎ ((model .width limit g0 last group ≡ w) × (model .height limit g0 last group ≤ h)) → NoWorse rest w′ h′
     → NoWorse (joinedFor model limit g0 last group rest k) (w + w′) (max h h′)
 joined-no-worse model limit g0 last group rest k w h w′ h′ (inl p) (inl r) = inl (omega arith)
