@@ -1,12 +1,12 @@
 -- What a stack that was read into lists holds, for the layout.
 use Prim.Native.Nat.{ℕ, zero, suc, _≤_, _<_}
 use mathlib.Core.Path.{_≡_, sym, _∙_}
-use mathlib.Core.List.{List, [], _∷_, _++_}
+use mathlib.Core.List.{List, [], _∷_}
 use native.Mathlib.Omega.{arith}
 use lib.ListN.{length, getD, take}
 use Rattle.terms.specs.declared.Component.{Component}
 use Rattle.terms.specs.declared.Kind.{Kind}
-use Rattle.terms.specs.Component.{tabulate, componentIn, componentsIn}
+use Rattle.terms.specs.Component.{componentsIn}
 use Rattle.terms.proofs.Answers.{most-256}
 use Rattle.terms.proofs.Lists.{heightsOf, widthsOf, gapsOf, length-map, all-sized, AllSized}
 use Rattle.stack.proofs.Valid.{valid}
@@ -14,7 +14,7 @@ use Rattle.stack.proofs.Reading.{Held}
 use Rattle.layout.specs.Plan.{StackLists}
 use Rattle.layout.proofs.Bounds.{AllGaps, all-gaps}
 use Rattle.layout.proofs.Groups.{Stacked}
-use Rattle.layout.proofs.Columns.{sized-lists, components-length}
+use Rattle.layout.proofs.Columns.{components-length, good-lists}
 use Rattle.fold.specs.Inner.{FirstLists}
 
 heights-some : (cs : List Component) → AllSized cs → (i : ℕ) → i < length (heightsOf cs) → 1 ≤ getD (heightsOf cs) i 0
@@ -66,24 +66,5 @@ module _ {kind : Kind} {file : List ℕ} {n : ℕ} {heights widths gaps : List �
       let f : n ≤ 256 = omega (arith, v .few, most-256 kind, h .count) in
       record { heights-long = omega arith; widths-long = omega arith; gaps-long = omega arith; some = omega (arith, v .some, h .count); lists = lists-held }
 
--- The gaps of a stack in lists.
-gaps-tabulate : (g : ℕ → Component) (n : ℕ) → ((i : ℕ) → g i .gap .0 ≤ 4000) → AllGaps (tabulate g n)
-unfolding tabulate
-gaps-tabulate g zero h = tt
-gaps-tabulate g (suc n) h = last (tabulate g n) (gaps-tabulate g n h)
-  where
-    last : (cs : List Component) → AllGaps cs → AllGaps (cs ++ (g n ∷ []))
-    last [] a = (h n, tt)
-    last (c ∷ cs) a = (a .0, last cs (a .1))
-
 pub stacked : (kind : Kind) (hs ws gs : List ℕ) → StackLists kind hs ws gs → 0 < length hs → Stacked (componentsIn hs ws gs)
-stacked kind hs ws gs s p =
-    let n = components-length hs ws gs in
-    record {
-      some = omega arith;
-      good = record {
-        few = omega (arith, s .few, most-256 kind);
-        sized = sized-lists s;
-        gapped = gaps-tabulate (componentIn hs ws gs) (length hs) (s .near);
-      };
-    }
+stacked kind hs ws gs s p = record { some = omega (arith, components-length hs ws gs); good = good-lists s }

@@ -9,10 +9,13 @@ use Rattle.terms.specs.declared.Component.{Component}
 use Rattle.terms.specs.declared.Kind.{Kind}
 use Rattle.terms.specs.Component.{tabulate, componentIn, componentsIn}
 use Rattle.terms.proofs.Tabulate.{tabulate-length, tabulate-at, tabulate-same}
+use Rattle.terms.proofs.Answers.{most-256}
 use Rattle.terms.proofs.Lists.{Sized, AllSized}
 use Rattle.group.specs.Table.{Columns}
 use Rattle.group.proofs.Indices.{take-tabulate}
 use Rattle.layout.specs.Plan.{StackLists}
+use Rattle.layout.proofs.Bounds.{AllGaps}
+use Rattle.layout.proofs.Groups.{Good}
 
 pub columns-of : {kind : Kind} {hs ws gs : List ℕ} → StackLists kind hs ws gs → Columns hs ws
 columns-of s = record { same = s .same-widths; low = s .low; slim = s .slim }
@@ -92,3 +95,19 @@ pub sized-lists : {kind : Kind} {hs ws gs : List ℕ} → StackLists kind hs ws 
 sized-lists {hs = hs} {ws = ws} {gs = gs} s =
     sized-tabulate (componentIn hs ws gs) (length hs)
     (λ i l. record { height-some = s .tall i l; height-most = s .low i; width-some = s .wide i l; width-most = s .slim i })
+
+gaps-tabulate : (g : ℕ → Component) (n : ℕ) → ((i : ℕ) → g i .gap .0 ≤ 4000) → AllGaps (tabulate g n)
+unfolding tabulate
+gaps-tabulate g zero h = tt
+gaps-tabulate g (suc n) h = last (tabulate g n) (gaps-tabulate g n h)
+  where
+    last : (cs : List Component) → AllGaps cs → AllGaps (cs ++ (g n ∷ []))
+    last [] a = (h n, tt)
+    last (c ∷ cs) a = (a .0, last cs (a .1))
+
+pub good-lists : {kind : Kind} {hs ws gs : List ℕ} → StackLists kind hs ws gs → Good (componentsIn hs ws gs)
+good-lists {kind} {hs} {ws} {gs} s = record {
+  few = omega (arith, components-length hs ws gs, s .few, most-256 kind);
+  sized = sized-lists s;
+  gapped = gaps-tabulate (componentIn hs ws gs) (length hs) (s .near);
+}

@@ -13,6 +13,9 @@ use terms::Slices;
 // The entries of a row of a table: one more than a group that is folded may have components.
 pub const STRIDE: usize = terms::MOST_NESTED + 1;
 
+// And all its entries.
+pub const CELLS: usize = STRIDE * STRIDE;
+
 pub fn wide(x: u16) -> u32
     ensures { λ r. ⌜ r ≡ x ⌝ }
     ensures { λ r. ⌜ r < 65536 ⌝ }

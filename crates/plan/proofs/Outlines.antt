@@ -4,9 +4,15 @@ use mathlib.Core.Path.{_≡_}
 use mathlib.Core.List.{List}
 use native.Mathlib.Omega.{arith}
 use lib.ListN.{length}
+use Rattle.terms.specs.Numbers.{leastWork}
 use Rattle.terms.specs.declared.Kind.{Kind}
+use Rattle.terms.specs.declared.Kind.the-variants.{Apart, Nested}
 use Rattle.terms.proofs.Answers.{most-256}
-use Rattle.plan.specs.Asks.{PlanAsks, Plannable}
+use Rattle.plan.specs.Asks.{planRoom, PlanAsks, Plannable}
+
+room-most : (kind : Kind) → planRoom kind ≤ leastWork
+room-most Apart = omega arith
+room-most Nested = omega arith
 
 module _ (kind : Kind) (limit : ℕ) (hs ws gs work : List ℕ) (a : Plannable kind hs ws gs work) (most : limit ≤ 2000000) where
   pub plan-asks : (widths heights ends : List ℕ) → length widths ≡ 257 → length heights ≡ 257 → length ends ≡ 257 → PlanAsks kind limit hs ws gs widths heights ends work
@@ -19,5 +25,5 @@ module _ (kind : Kind) (limit : ℕ) (hs ws gs work : List ℕ) (a : Plannable k
         widths-long = omega arith;
         heights-long = omega arith;
         ends-long = omega arith;
-        room = a .room;
+        room = omega (arith, room-most kind, a .room);
       }

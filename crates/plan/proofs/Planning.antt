@@ -12,16 +12,20 @@ use Rattle.terms.specs.declared.Kind.{Kind}
 use Rattle.terms.specs.Component.{componentIn, componentsIn}
 use Rattle.terms.proofs.Parts.{from}
 use Rattle.group.specs.Rows.{gap}
+use Rattle.group.specs.Group.{mayStand}
+use Rattle.group.proofs.Ways.{suits}
+use Rattle.model.proofs.Falling.{layouts-fall}
 use Rattle.model.specs.Layout.{candidateFor}
 use Rattle.model.proofs.Scan.{layouts-drop, layouts-end}
 use Rattle.layout.specs.Layout.{Layout, unmet, empty, groups, layouts, layoutOf}
 use Rattle.layout.specs.Table.{outline}
 use Rattle.layout.specs.Plan.{PlannedAt}
 use Rattle.plan.specs.declared.Best.{Best}
-use Rattle.plan.specs.Asks.{layoutIn, Later, FirstAsks, FromAsks, PlanAsks, PlannedFrom, PlanDone, gapBefore}
+use Rattle.plan.specs.Asks.{layoutIn, Later, FirstAsks, FromAsks, PlanAsks, PlannedFrom, PlanDone, gapBefore, KnownTo, Known, EntryAsks}
 use Rattle.plan.proofs.Gaps.{gap-near}
 use Rattle.plan.proofs.Columns.{component-at, gap-last}
-use Rattle.layout.proofs.Columns.{components-length, components-drop, lists-drop}
+use Rattle.layout.proofs.Groups.{groups-laws}
+use Rattle.layout.proofs.Columns.{components-length, components-drop, lists-drop, good-lists}
 
 module _ (kind : Kind) (limit : ℕ) where
   rest-drop : (hs ws gs : List ℕ) (i : ℕ) → i ≤ length hs
@@ -77,8 +81,17 @@ module _ {kind : Kind} {limit i : ℕ} {hs ws gs widths heights es : List ℕ} (
         e
         ∙ rw (from i hs, from i ws, from i gs, eg) (rest-at 0 ∙ ap (λ (z : ℕ). getD all z unmet) (omega arith))
 
--- The three lists that are filled, at the lengths of the beginning.
-module _ {kind : Kind} {limit : ℕ} {hs ws gs widths₀ heights₀ ends₀ es₀ : List ℕ} (a : PlanAsks kind limit hs ws gs widths₀ heights₀ ends₀ es₀) where
+-- What is known in front of i outlives the entry i.
+known-set : {kind : Kind} {known limit : ℕ} {cs : List Component} {widths heights ends : List ℕ} {to : ℕ} (i a b c : ℕ) → i ≤ to → KnownTo kind known limit cs widths heights ends to
+    → KnownTo kind known limit cs (set widths i a) (set heights i b) (set ends i c) i
+known-set {widths = widths} {heights = heights} {ends = ends} i a b c h k = record {
+  at = λ l j o.
+      let n : j ≡ i → ⊥ = λ z. omega arith in
+      rw (getD-set-other widths i j a 0 n, getD-set-other heights i j b 0 n, getD-set-other ends i j c 0 n) (k .at l j (omega arith));
+}
+
+-- The three lists that are filled.
+module _ {kind : Kind} {limit : ℕ} {hs ws gs widths heights ends es : List ℕ} (a : PlanAsks kind limit hs ws gs widths heights ends es) where
   abbrev cs : List Component
   cs = componentsIn hs ws gs
 
@@ -88,47 +101,92 @@ module _ {kind : Kind} {limit : ℕ} {hs ws gs widths₀ heights₀ ends₀ es�
   at-end : getD (layouts kind limit 0 (componentsIn hs ws gs)) (length hs) unmet ≡ empty
   at-end = ap (λ (z : ℕ). getD (layouts kind limit 0 cs) z unmet) (sym long) ∙ layouts-end (λ x. gap x) (candidateFor (groups kind) limit) cs 0
 
-  pub plan-start : PlannedFrom kind limit (componentsIn hs ws gs) (set widths₀ (length hs) 0) (set heights₀ (length hs) 0) (set ends₀ (length hs) 0) (length hs)
+  pub asks-again : {widths′ heights′ ends′ es′ : List ℕ} → length widths′ ≡ length widths → length heights′ ≡ length heights → length ends′ ≡ length ends → length es′ ≡ length es
+      → PlanAsks kind limit hs ws gs widths′ heights′ ends′ es′
+  asks-again lw lh le l = record {
+    lists = a .lists;
+    some = a .some;
+    limit-most = a .limit-most;
+    widths-long = omega (arith, a .widths-long);
+    heights-long = omega (arith, a .heights-long);
+    ends-long = omega (arith, a .ends-long);
+    room = omega (arith, a .room);
+  }
+
+  pub plan-start : PlannedFrom kind limit (componentsIn hs ws gs) (set widths (length hs) 0) (set heights (length hs) 0) (set ends (length hs) 0) (length hs)
   plan-start = record {
     at = λ j h k.
         let e : j ≡ length hs = omega (arith, long) in
         rw (e, at-end) (record {
-          width-is = getD-set-same widths₀ (length hs) 0 0 (a .widths-long);
-          height-is = getD-set-same heights₀ (length hs) 0 0 (a .heights-long);
-          end-is = getD-set-same ends₀ (length hs) 0 0 (a .ends-long);
+          width-is = getD-set-same widths (length hs) 0 0 (a .widths-long);
+          height-is = getD-set-same heights (length hs) 0 0 (a .heights-long);
+          end-is = getD-set-same ends (length hs) 0 0 (a .ends-long);
         });
   }
 
-  module _ {widths heights ends : List ℕ} {later : ℕ} (s : PlannedFrom kind limit (componentsIn hs ws gs) widths heights ends later)
-      (lw : length widths ≡ length (set widths₀ (length hs) 0)) (lh : length heights ≡ length (set heights₀ (length hs) 0)) (le : length ends ≡ length (set ends₀ (length hs) 0)) where
-    pub plan-done : later ≡ 0 → PlanDone kind limit (componentsIn hs ws gs) widths heights ends (outline (getD widths 0 0) (getD heights 0 0))
-    plan-done e =
-        let first = s .at 0 (omega arith) (omega arith) in
-        record { planned = record { at = λ j h. s .at j (omega arith) h }; outlined = rw (first .width-is, first .height-is) }
+  pub known-start : {known : ℕ} → Known kind known limit (componentsIn hs ws gs) widths heights ends
+      → KnownTo kind known limit (componentsIn hs ws gs) (set widths (length hs) 0) (set heights (length hs) 0) (set ends (length hs) 0) (length hs)
+  known-start k = known-set {widths = widths} {heights = heights} {ends = ends} {to = length hs} (length hs) 0 0 0 (omega arith) (record { at = λ l j h. k l .at j (omega (arith, long)) })
 
-    module _ (i : ℕ) (e : i + 1 ≡ later) (o : later ≤ length hs) where
-      pub from-asks : (es : List ℕ) → length es ≡ length es₀ → FromAsks kind limit i hs ws gs widths heights es
-      from-asks es l = record {
-        lists = a .lists;
-        within = omega arith;
-        limit-most = a .limit-most;
-        widths-long = omega (arith, a .widths-long, length-set widths₀ (length hs) 0);
-        heights-long = omega (arith, a .heights-long, length-set heights₀ (length hs) 0);
-        room = omega (arith, a .room);
-        width-is = λ j h k. s .at j (omega arith) (omega (arith, long)) .width-is;
-        height-is = λ j h k. s .at j (omega arith) (omega (arith, long)) .height-is;
-      }
+  pub plan-done : {later : ℕ} → PlannedFrom kind limit (componentsIn hs ws gs) widths heights ends later → later ≡ 0
+      → PlanDone kind limit (componentsIn hs ws gs) widths heights ends (outline (getD widths 0 0) (getD heights 0 0))
+  plan-done s e =
+      let first = s .at 0 (omega arith) (omega arith) in
+      record { planned = record { at = λ j h. s .at j (omega arith) h }; outlined = rw (first .width-is, first .height-is) }
 
-      pub plan-more : (b : Best) → layoutIn b ≡ getD (layouts kind limit 0 (componentsIn hs ws gs)) i unmet
-          → PlannedFrom kind limit (componentsIn hs ws gs) (set widths i (b .width .0)) (set heights i (b .height .0)) (set ends i (b .end)) i
-      plan-more b f = record { at = λ j h k. go j k (eq-or-lt-of-le h) }
-        where
-          go : (j : ℕ) → j ≤ length cs → (i ≡ j) ⊎ (i < j) → PlannedAt (getD (layouts kind limit 0 cs) j unmet) (getD (set widths i (b .width .0)) j 0) (getD (set heights i (b .height .0)) j 0) (getD (set ends i (b .end)) j 0)
-          go j k (inl q) = rw (← q, ← f) (record {
-            width-is = getD-set-same widths i (b .width .0) 0 (omega (arith, a .widths-long, length-set widths₀ (length hs) 0));
-            height-is = getD-set-same heights i (b .height .0) 0 (omega (arith, a .heights-long, length-set heights₀ (length hs) 0));
-            end-is = getD-set-same ends i (b .end) 0 (omega (arith, a .ends-long, length-set ends₀ (length hs) 0));
-          })
-          go j k (inr q) =
-              let n : j ≡ i → ⊥ = λ z. omega arith in
-              rw (getD-set-other widths i j (b .width .0) 0 n, getD-set-other heights i j (b .height .0) 0 n, getD-set-other ends i j (b .end) 0 n) (s .at j (omega arith) k)
+pub entry-asks : {kind : Kind} {known limit later : ℕ} {hs ws gs widths heights ends es : List ℕ} (i : ℕ) → PlanAsks kind limit hs ws gs widths heights ends es
+    → PlannedFrom kind limit (componentsIn hs ws gs) widths heights ends later → KnownTo kind known limit (componentsIn hs ws gs) widths heights ends later
+    → later ≤ length hs → i + 1 ≡ later → EntryAsks kind known limit i hs ws gs widths heights ends es
+entry-asks {later = later} i a p k l e = let z : suc i ≡ later = omega arith in record { asks = a; within = omega arith; behind = rw z p; before = rw z k }
+
+module _ {kind : Kind} {known limit i : ℕ} {hs ws gs widths heights ends es : List ℕ} (a : EntryAsks kind known limit i hs ws gs widths heights ends es) where
+  pub from-asks : FromAsks kind limit i hs ws gs widths heights es
+  from-asks = record {
+    lists = a .asks .lists;
+    within = a .within;
+    limit-most = a .asks .limit-most;
+    widths-long = a .asks .widths-long;
+    heights-long = a .asks .heights-long;
+    room = a .asks .room;
+    width-is = λ j h k. a .behind .at j h (omega (arith, components-length hs ws gs)) .width-is;
+    height-is = λ j h k. a .behind .at j h (omega (arith, components-length hs ws gs)) .height-is;
+  }
+
+  -- The entry is searched.
+  pub plan-more : (b : Best) → layoutIn b ≡ getD (layouts kind limit 0 (componentsIn hs ws gs)) i unmet
+      → PlannedFrom kind limit (componentsIn hs ws gs) (set widths i (b .width .0)) (set heights i (b .height .0)) (set ends i (b .end)) i
+  plan-more b f = record { at = λ j h k. go j k (eq-or-lt-of-le h) }
+    where
+      go : (j : ℕ) → j ≤ length (componentsIn hs ws gs) → (i ≡ j) ⊎ (i < j)
+          → PlannedAt (getD (layouts kind limit 0 (componentsIn hs ws gs)) j unmet) (getD (set widths i (b .width .0)) j 0) (getD (set heights i (b .height .0)) j 0) (getD (set ends i (b .end)) j 0)
+      go j k (inl q) = rw (← q, ← f) (record {
+        width-is = getD-set-same widths i (b .width .0) 0 (omega (arith, a .within, a .asks .widths-long));
+        height-is = getD-set-same heights i (b .height .0) 0 (omega (arith, a .within, a .asks .heights-long));
+        end-is = getD-set-same ends i (b .end) 0 (omega (arith, a .within, a .asks .ends-long));
+      })
+      go j k (inr q) =
+          let n : j ≡ i → ⊥ = λ z. omega arith in
+          rw (getD-set-other widths i j (b .width .0) 0 n, getD-set-other heights i j (b .height .0) 0 n, getD-set-other ends i j (b .end) 0 n) (a .behind .at j q k)
+
+  pub known-more : (b : Best) → KnownTo kind known limit (componentsIn hs ws gs) (set widths i (b .width .0)) (set heights i (b .height .0)) (set ends i (b .end)) i
+  known-more b = known-set i (b .width .0) (b .height .0) (b .end) (omega arith) (a .before)
+
+  -- It stays as it is.
+  module _ (lower : limit < known) (keeps : getD heights i 0 ≤ limit) where
+    entry : PlannedAt (getD (layouts kind known 0 (componentsIn hs ws gs)) i unmet) (getD widths i 0) (getD heights i 0) (getD ends i 0)
+    entry = a .before .at lower i (omega arith)
+
+    same-layout : getD (layouts kind limit 0 (componentsIn hs ws gs)) i unmet ≡ getD (layouts kind known 0 (componentsIn hs ws gs)) i unmet
+    same-layout =
+        layouts-fall (groups-laws kind (λ last. mayStand kind) (λ last. suits kind)) known limit (omega arith) (omega (arith, a .asks .limit-most)) 0 (componentsIn hs ws gs) (good-lists (a .asks .lists)) i
+        .stays (omega (arith, entry .height-is))
+
+    pub plan-stays : PlannedFrom kind limit (componentsIn hs ws gs) widths heights ends i
+    plan-stays = record { at = λ j h k. go j k (eq-or-lt-of-le h) }
+      where
+        go : (j : ℕ) → j ≤ length (componentsIn hs ws gs) → (i ≡ j) ⊎ (i < j) → PlannedAt (getD (layouts kind limit 0 (componentsIn hs ws gs)) j unmet) (getD widths j 0) (getD heights j 0) (getD ends j 0)
+        go j k (inl q) = rw (← q, same-layout) entry
+        go j k (inr q) = a .behind .at j q k
+
+    pub known-stays : KnownTo kind known limit (componentsIn hs ws gs) widths heights ends i
+    known-stays = record { at = λ l j h. a .before .at l j (omega arith) }

@@ -6,7 +6,6 @@ use native.Mathlib.Numerals.{add-one}
 use native.Mathlib.Omega.{arith}
 use lib.ListN.{length, getD, take}
 use lib.Seq.{length-take-le}
-use Rattle.terms.specs.Numbers.{leastWork}
 use Rattle.terms.specs.declared.Component.{Component}
 use Rattle.terms.specs.declared.Kind.{Kind}
 use Rattle.terms.specs.Component.{componentIn, componentsIn}
@@ -14,7 +13,7 @@ use Rattle.group.specs.Rows.{gap, tall}
 use Rattle.group.specs.Group.{none, widest}
 use Rattle.layout.specs.Layout.{Layout, unmet, groups, candidate, choice, layouts, layoutOf}
 use Rattle.plan.specs.declared.Best.{Best}
-use Rattle.plan.specs.Asks.{layoutIn, GroupAsks, Packed, mostRows, restAt, FirstAsks, bestTo}
+use Rattle.plan.specs.Asks.{layoutIn, GroupAsks, Packed, mostRows, planRoom, restAt, FirstAsks, bestTo}
 use Rattle.plan.proofs.Columns.{component-at, tall-more, widest-more}
 use Rattle.model.specs.Layout.{candidateFor}
 use Rattle.model.proofs.Choice.{no-wider, Fair}
@@ -76,7 +75,7 @@ module _ {kind : Kind} {limit g0 : ℕ} {hs ws gs widths heights es : List ℕ} 
 
         pub group-asks : (now : List ℕ) → length now ≡ length es
             → GroupAsks kind limit g0 wider (take (k + 1) hs) (take (k + 1) ws) (take (k + 1) gs) best rest
-            × (Packed (rows + x) (take (k + 1) hs) (take (k + 1) ws) (take (k + 1) gs) × (leastWork ≤ length now))
+            × (Packed (rows + x) (take (k + 1) hs) (take (k + 1) ws) (take (k + 1) gs) × (planRoom kind ≤ length now))
         group-asks now n = (
           record {
             lists = lists-take (a .lists) (k + 1) (omega arith);

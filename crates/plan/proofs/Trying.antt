@@ -73,7 +73,7 @@ module _ {limit g0 wide : ℕ} {hs ws gs : List ℕ} {best rest : Best} (a : Gro
   abbrev w : ℕ
   w = leastWidth Nested g0 (componentsIn hs ws gs) limit
 
-  pub narrow-asks : (es : List ℕ) (cap : ℕ) → 8192 ≤ length es → wide ≤ cap → cap ≤ 2 * wide → WidthAsks g0 hs ws gs es limit wide cap
+  pub narrow-asks : (es : List ℕ) (cap : ℕ) → 4225 ≤ length es → wide ≤ cap → cap ≤ 2 * wide → WidthAsks g0 hs ws gs es limit wide cap
   narrow-asks es cap room c d = record {
     asks = record {
       table = record { columns = record { same = a .lists .same-widths; low = a .lists .low; slim = a .lists .slim }; few = a .lists .few; room = omega arith };

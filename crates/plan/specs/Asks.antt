@@ -5,6 +5,7 @@ use mathlib.Core.Path.{_≡_}
 use mathlib.Core.Logic.{_⊎_}
 use mathlib.Core.List.{List}
 use lib.ListN.{length, getD, drop}
+use Rattle.numbers.specs.Table.{cells}
 use Rattle.terms.specs.Numbers.{mostSize, mostLimit, leastWork}
 use Rattle.terms.specs.declared.Component.{Component}
 use Rattle.terms.specs.declared.Kind.{Kind}
@@ -44,6 +45,11 @@ abbrev pub mostRows : Kind → ℕ → ℕ
 mostRows Apart limit = limit
 mostRows Nested limit = 2 * limit
 
+-- What planning takes of a work buffer: nested the table of one group, apart nothing.
+abbrev pub planRoom : Kind → ℕ
+planRoom Apart = 0
+planRoom Nested = cells
+
 -- A first group does not ask where the rest has its own groups.
 abbrev pub restAt : List ℕ → List ℕ → ℕ → Best
 restAt widths heights k = record { width = record { 0 = getD widths k 0 }; height = record { 0 = getD heights k 0 }; end = 0 }
@@ -60,7 +66,7 @@ pub record FirstAsks (kind : Kind) (limit g0 : ℕ) (hs ws gs widths heights es 
   pub before : g0 ≤ mostSize
   pub widths-long : length hs ≤ length widths
   pub heights-long : length hs ≤ length heights
-  pub room : leastWork ≤ length es
+  pub room : planRoom kind ≤ length es
   pub later : Later kind limit g0 (componentsIn hs ws gs) widths heights
 
 -- The best layout with at most k components in the first group.
@@ -74,7 +80,7 @@ pub record FromAsks (kind : Kind) (limit i : ℕ) (hs ws gs widths heights es : 
   pub limit-most : limit ≤ mostLimit
   pub widths-long : length hs < length widths
   pub heights-long : length hs < length heights
-  pub room : leastWork ≤ length es
+  pub room : planRoom kind ≤ length es
   pub width-is : (j : ℕ) → i < j → j ≤ length hs → getD widths j 0 ≡ getD (layouts kind limit 0 (componentsIn hs ws gs)) j unmet .width
   pub height-is : (j : ℕ) → i < j → j ≤ length hs → getD heights j 0 ≡ getD (layouts kind limit 0 (componentsIn hs ws gs)) j unmet .height
 
@@ -85,7 +91,7 @@ pub record PlanAsks (kind : Kind) (limit : ℕ) (hs ws gs widths heights ends es
   pub widths-long : length hs < length widths
   pub heights-long : length hs < length heights
   pub ends-long : length hs < length ends
-  pub room : leastWork ≤ length es
+  pub room : planRoom kind ≤ length es
 
 -- The gap before the component with i others before it.
 abbrev pub gapBefore : List ℕ → ℕ → ℕ
@@ -95,6 +101,21 @@ gapBefore gs (suc i) = getD gs i 0
 -- The three lists are right from i on.
 pub record PlannedFrom (kind : Kind) (limit : ℕ) (cs : List Component) (widths heights ends : List ℕ) (i : ℕ) : Type 0 where
   pub at : (j : ℕ) → i ≤ j → j ≤ length cs → PlannedAt (getD (layouts kind limit 0 cs) j unmet) (getD widths j 0) (getD heights j 0) (getD ends j 0)
+
+-- Where the limit is under `known`, the lists are right for `known` in front of i.
+pub record KnownTo (kind : Kind) (known limit : ℕ) (cs : List Component) (widths heights ends : List ℕ) (i : ℕ) : Type 0 where
+  pub at : limit < known → (j : ℕ) → j < i → PlannedAt (getD (layouts kind known 0 cs) j unmet) (getD widths j 0) (getD heights j 0) (getD ends j 0)
+
+-- The lists before and behind i, and i itself still to be planned.
+pub record EntryAsks (kind : Kind) (known limit i : ℕ) (hs ws gs widths heights ends es : List ℕ) : Type 0 where
+  pub asks : PlanAsks kind limit hs ws gs widths heights ends es
+  pub within : i < length hs
+  pub behind : PlannedFrom kind limit (componentsIn hs ws gs) widths heights ends (suc i)
+  pub before : KnownTo kind known limit (componentsIn hs ws gs) widths heights ends (suc i)
+
+-- The lists hold a plan for `known`, if that is over the limit.
+abbrev pub Known : Kind → ℕ → ℕ → List Component → List ℕ → List ℕ → List ℕ → Type 0
+Known kind known limit cs widths heights ends = limit < known → Planned kind known 0 cs widths heights ends
 
 -- A stack in three lists, with room to plan it.
 pub record Plannable (kind : Kind) (hs ws gs work : List ℕ) : Type 0 where

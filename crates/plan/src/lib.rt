@@ -1,16 +1,19 @@
 // The best layouts of a stack for a height, from its last component to its first.
+ghost use mathlib.Core.Bool.{true};
 ghost use mathlib.Core.Path.{_≡_};
 ghost use Prim.Native.Nat.{_+_, _*_, _≤_, _<_};
 ghost use lib.ListN.{length, getD, take};
-ghost use Rattle.terms.specs.Numbers.{mostApart, mostLimit, leastWork};
+ghost use Rattle.terms.specs.Numbers.{mostApart, mostLimit};
 ghost use Rattle.terms.specs.declared.Kind.the-variants.{Apart, Nested};
 ghost use Rattle.terms.specs.Component.{componentsIn};
 ghost use Rattle.group.specs.Group.{none};
 ghost use Rattle.layout.specs.Layout.{better, choice, unmet, layouts, layoutOf};
 ghost use Rattle.plan.specs.Asks.{layoutIn, GroupAsks, Packed, tried, mostRows, restAt, FirstAsks};
-ghost use Rattle.plan.specs.Asks.{FromAsks, PlanAsks, PlanDone, gapBefore, Plannable, bestAt};
+ghost use Rattle.plan.specs.Asks.{FromAsks, PlanAsks, PlannedFrom, PlanDone, gapBefore, planRoom};
+ghost use Rattle.plan.specs.Asks.{Known, KnownTo, EntryAsks, Plannable, bestAt};
 use folding::Outline;
 use group::NONE;
+use numbers::CELLS;
 use numbers::larger;
 use numbers::lesser;
 use numbers::wide;
@@ -120,7 +123,7 @@ fn try_folds(
     work: &mut [u32],
 ) -> Best
     requires { ⌜ GroupAsks Nested (limit .0) (g0 .0) (widest .0) (now h) (now w) (now g) best rest ⌝ }
-    requires { ⌜ leastWork ≤ length (now work) ⌝ }
+    requires { ⌜ planRoom Nested ≤ length (now work) ⌝ }
     ensures { λ r. ⌜ layoutIn r
         ≡ tried Nested (limit .0) (g0 .0) (length (now (h .entry)))
         (now (h .entry)) (now (w .entry)) (now (g .entry)) best rest ⌝ }
@@ -161,7 +164,7 @@ fn try_group(
 ) -> Best
     requires { ⌜ GroupAsks kind (limit .0) (g0 .0) (widest .0) (now h) (now w) (now g) best rest ⌝ }
     requires { ⌜ Packed (tall .0) (now h) (now w) (now g) ⌝ }
-    requires { ⌜ leastWork ≤ length (now work) ⌝ }
+    requires { ⌜ planRoom kind ≤ length (now work) ⌝ }
     ensures { λ r. ⌜ layoutIn r
         ≡ tried kind (limit .0) (g0 .0) (length (now (h .entry)))
         (now (h .entry)) (now (w .entry)) (now (g .entry)) best rest ⌝ }
@@ -190,7 +193,7 @@ fn try_first(
     requires { ⌜ GroupAsks kind (limit .0) (g0 .0) (widest .0)
         (take k (now h)) (take k (now w)) (take k (now g)) best rest ⌝ }
     requires { ⌜ Packed (tall .0) (take k (now h)) (take k (now w)) (take k (now g)) ⌝ }
-    requires { ⌜ leastWork ≤ length (now work) ⌝ }
+    requires { ⌜ planRoom kind ≤ length (now work) ⌝ }
     requires { ⌜ (k ≤ length (now h)) × (k ≤ length (now w)) × (k ≤ length (now g)) ⌝ }
     ensures { λ r. ⌜ layoutIn r ≡ tried kind (limit .0) (g0 .0) k
         (take k (now (h .entry))) (take k (now (w .entry))) (take k (now (g .entry))) best rest ⌝ }
@@ -315,6 +318,93 @@ fn best_from(
     )
 }
 
+// What planning takes of a work buffer.
+pub fn room(kind: Kind) -> usize
+    ensures { λ r. ⌜ r ≡ planRoom kind ⌝ }
+{
+    match kind {
+        Kind::Apart => 0,
+        Kind::Nested => CELLS,
+    }
+}
+
+// Whether a layout of this height, the best for the limit `known`, is so for the limit: a best layout that keeps a lower
+// limit stays the best.
+fn stays(known: Rows, limit: Rows, height: u32) -> bool
+    ensures { λ r. ⌜ (r ≡ true → (limit .0 < known .0) × (height ≤ limit .0)) ⌝ }
+{
+    if known.0 <= limit.0 {
+        return false;
+    }
+    height <= limit.0
+}
+
+// The best layout of what is left behind i components, in the three lists.
+fn plan_at(
+    kind: Kind,
+    known: Rows,
+    limit: Rows,
+    i: usize,
+    h: &[u16],
+    w: &[u16],
+    g: &[u16],
+    widths: &mut [u32],
+    heights: &mut [u32],
+    ends: &mut [u32],
+    work: &mut [u32],
+)
+    requires { ⌜ EntryAsks kind (known .0) (limit .0) i
+        (now h) (now w) (now g) (now widths) (now heights) (now ends) (now work) ⌝ }
+    ensures { λ _. ⌜ PlannedFrom kind (limit .0) (componentsIn (now (h .entry)) (now (w .entry)) (now (g .entry)))
+        (now (widths .exit)) (now (heights .exit)) (now (ends .exit)) i ⌝ }
+    ensures { λ _. ⌜ KnownTo kind (known .0) (limit .0)
+        (componentsIn (now (h .entry)) (now (w .entry)) (now (g .entry)))
+        (now (widths .exit)) (now (heights .exit)) (now (ends .exit)) i ⌝ }
+{
+    if stays(known, limit, heights[i]) {
+        return;
+    }
+    let b = best_from(kind, limit, i, h, w, g, widths, heights, work);
+    widths[i] = b.width.0;
+    heights[i] = b.height.0;
+    ends[i] = b.end;
+}
+
+// The same as `plan`, where the lists hold a plan for the limit `known`: if that is higher, what of it keeps the limit is
+// not searched again.
+pub fn replan(
+    kind: Kind,
+    known: Rows,
+    limit: Rows,
+    h: &[u16],
+    w: &[u16],
+    g: &[u16],
+    widths: &mut [u32],
+    heights: &mut [u32],
+    ends: &mut [u32],
+    work: &mut [u32],
+) -> Outline
+    requires { ⌜ PlanAsks kind (limit .0)
+        (now h) (now w) (now g) (now widths) (now heights) (now ends) (now work) ⌝ }
+    requires { ⌜ Known kind (known .0) (limit .0) (componentsIn (now h) (now w) (now g))
+        (now widths) (now heights) (now ends) ⌝ }
+    ensures { λ r. ⌜ PlanDone kind (limit .0) (componentsIn (now (h .entry)) (now (w .entry)) (now (g .entry)))
+        (now (widths .exit)) (now (heights .exit)) (now (ends .exit)) r ⌝ }
+{
+    let mut i = h.len();
+    widths[i] = 0;
+    heights[i] = 0;
+    ends[i] = 0;
+    while 0 < i {
+        i -= 1;
+        plan_at(kind, known, limit, i, h, w, g, widths, heights, ends, work);
+    }
+    Outline {
+        width: Slices(widths[0]),
+        height: Rows(heights[0]),
+    }
+}
+
 // For a height: the best layouts of a stack and of what is left of it behind 1, 2, 3 and so on components, and the outline
 // of the whole. A width of NONE means that there is none. The content of the work buffer is free afterwards.
 pub fn plan(
@@ -333,21 +423,7 @@ pub fn plan(
     ensures { λ r. ⌜ PlanDone kind (limit .0) (componentsIn (now (h .entry)) (now (w .entry)) (now (g .entry)))
         (now (widths .exit)) (now (heights .exit)) (now (ends .exit)) r ⌝ }
 {
-    let mut i = h.len();
-    widths[i] = 0;
-    heights[i] = 0;
-    ends[i] = 0;
-    while 0 < i {
-        i -= 1;
-        let b = best_from(kind, limit, i, h, w, g, widths, heights, work);
-        widths[i] = b.width.0;
-        heights[i] = b.height.0;
-        ends[i] = b.end;
-    }
-    Outline {
-        width: Slices(widths[0]),
-        height: Rows(heights[0]),
-    }
+    replan(kind, Rows(0), limit, h, w, g, widths, heights, ends, work)
 }
 
 // The outline of the best layout for a height. A width of NONE means that there is none. The content of the work buffer is
