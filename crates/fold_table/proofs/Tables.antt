@@ -1,11 +1,13 @@
 -- Counting the outlines and writing them.
 use Prim.Native.Nat.{ℕ, zero, suc, _+_, _-_, _*_, _/_, _≤_, _<_}
 use mathlib.Core.Path.{_≡_, refl, sym, ap, _∙_}
+use mathlib.Core.Logic.{_⊎_, inl, inr}
 use mathlib.Core.List.{List, [], _∷_, _++_, append-nil, append-assoc}
 use native.Mathlib.Omega.{arith}
-use lib.ListN.{length, take, drop, set, length-append, length-drop, take-append-drop}
-use lib.Seq.{length-take-le, take-at, drop-drop, drop-append-seam}
+use lib.ListN.{length, getD, take, drop, set, length-append, length-drop, take-append-drop}
+use lib.Seq.{length-take-le, take-at, drop-drop, drop-append-seam, getD-drop}
 use borrow.Author.Tests.{lt-ltb, le-ltb}
+use Rattle.terms.proofs.Order.{order}
 use Rattle.terms.specs.declared.Component.{Component}
 use Rattle.terms.specs.declared.Kind.{Kind}
 use Rattle.terms.specs.Answer.{Answer, refusal, result}
@@ -23,12 +25,13 @@ use Rattle.model.proofs.Fuel.{outlines-next, outlines-done, outlines-length}
 use Rattle.layout.specs.Layout.{layoutOf}
 use Rattle.layout.proofs.Foldings.{search}
 use Rattle.layout.proofs.Table.{table}
-use Rattle.plan.specs.Asks.{Plannable, bestAt}
+use Rattle.plan.specs.Asks.{planRoom, PlanAsks, Plannable, bestAt}
 use Rattle.fold.specs.Calls.{workCheck}
 use Rattle.fold.specs.Inner.{FirstLists}
+use Rattle.fold.proofs.Held.{stacked}
 use Rattle.layout.proofs.Groups.{Stacked}
 use Rattle.fold_table.specs.Calls.{tableValidOf, pairsOf, tableAnswer, tableInto, Tabled, TableAnswered}
-use Rattle.fold_table.specs.Inner.{outlinesTo, allOutlines, allInto, CountedTo, WrittenTo}
+use Rattle.fold_table.specs.Inner.{outlinesTo, allOutlines, allInto, PairKept, GatheredTo, Gathered, WrittenTo}
 
 pub two-set : (l : List ℕ) (i a b : ℕ) → i + 2 ≤ length l → set (set l i a) (i + 1) b ≡ take i l ++ (a ∷ b ∷ drop (i + 2) l)
 two-set [] i a b h = absurd (omega arith)
@@ -59,13 +62,48 @@ module _ (new put : List ℕ) (at a b : ℕ) (fits : at + 2 ≤ length new) (p :
   put-long : length put ≡ length new
   put-long = ap length parts ∙ omega (arith, length-append (take at new ++ (a ∷ b ∷ [])) (drop (at + 2) new), front-long, length-drop (at + 2) new)
 
+-- The same behind the first `from` numbers.
+pair-behind : (l : List ℕ) (from at a b : ℕ) → from + at + 2 ≤ length l → drop from (take (from + at) l ++ (a ∷ b ∷ drop (from + at + 2) l)) ≡ take at (drop from l) ++ (a ∷ b ∷ drop (at + 2) (drop from l))
+pair-behind l zero at a b h = let z : 0 + at ≡ at = omega arith in rw z
+pair-behind [] (suc from) at a b h = absurd (omega arith)
+pair-behind (x ∷ l) (suc from) at a b h =
+    let e : suc from + at ≡ suc (from + at) = omega arith in
+    let f : suc (from + at) + 2 ≡ suc (from + at + 2) = omega arith in
+    rw (e, f) (pair-behind l from at a b (omega arith))
+
+-- One more number of a list in front of what another held.
+copy-more : (l old : List ℕ) (i : ℕ) → i < length l → i < length old → set (take i l ++ drop i old) i (getD l i 0) ≡ take (i + 1) l ++ drop (i + 1) old
+copy-more [] old i h k = absurd (omega arith)
+copy-more (x ∷ l) [] i h k = absurd (omega arith)
+copy-more (x ∷ l) (y ∷ old) zero h k = refl
+copy-more (x ∷ l) (y ∷ old) (suc i) h k =
+    let e : suc i + 1 ≡ suc (i + 1) = omega arith in
+    rw e (ap (λ (m : List ℕ). x ∷ m) (copy-more l old i (omega arith) (omega arith)))
+
+pub copied : (l old out : List ℕ) (from i : ℕ) → from + i < length l → i < length old → out ≡ take i (drop from l) ++ drop i old → set out i (getD l (from + i) 0) ≡ take (i + 1) (drop from l) ++ drop (i + 1) old
+copied l old out from i h k e = rw (e, ← getD-drop from l i 0) (copy-more (drop from l) old i (omega (arith, length-drop from l)) k)
+
 pub none-to : (kind : Kind) (cs : List Component) (limit : ℕ) → limit ≤ 0 → outlinesTo kind cs limit ≡ []
 unfolding outlinesBy
 none-to kind cs zero h = refl
 none-to kind cs (suc limit) h = absurd (omega arith)
 
-pub count-starts : (kind : Kind) (cs : List Component) → CountedTo kind cs 2000000 0
-count-starts kind cs = record { most = omega arith; rest = omega arith }
+pub gather-starts : (kind : Kind) (cs : List Component) (work : List ℕ) (from : ℕ) → GatheredTo kind cs work from 2000000 0
+gather-starts kind cs work from = record { most = omega arith; rest = omega arith; waiting = λ h. refl }
+
+-- What planning does in front of `from` does not touch what waits.
+pub gather-plans : (kind : Kind) (cs : List Component) (old part : List ℕ) (from limit n : ℕ) → length part ≡ from → from ≤ length old → GatheredTo kind cs old from limit n
+    → GatheredTo kind cs (part ++ drop from old) from limit n
+gather-plans kind cs old part from limit n l h g = record {
+  most = g .most;
+  rest = g .rest;
+  waiting = λ k.
+      let e : drop from (part ++ drop from old) ≡ drop from old = ap (λ (i : ℕ). drop i (part ++ drop from old)) (sym l) ∙ drop-append-seam part (drop from old) in
+      rw e (g .waiting (omega (arith, length-append part (drop from old), length-drop from old)));
+}
+
+pub room-part : (kind : Kind) (work : List ℕ) (from : ℕ) → from ≡ planRoom kind → planRoom kind ≤ length work → planRoom kind ≤ length (take from work)
+room-part kind work from e h = omega (arith, length-take-le from work (omega arith))
 
 pub write-starts : (kind : Kind) (cs : List Component) (old : List ℕ) → WrittenTo kind cs old old 2000000 0
 write-starts kind cs old = record { most = omega arith; front = refl; beyond = refl; long = refl; rest = omega arith }
@@ -92,15 +130,42 @@ module _ (kind : Kind) (cs : List Component) (s : Stacked cs) where
       next : outlinesTo kind cs limit ≡ o ∷ outlinesTo kind cs (o .height .0 - 1)
       next = rw e (outlines-next (search kind cs s) limit met)
 
-      pub count-more : (n : ℕ) → CountedTo kind cs limit n → CountedTo kind cs (o .height .0 - 1) (n + 1)
-      count-more n c = record { most = omega (arith, falls, c .most); rest = omega (arith, c .rest, ap length next) }
+      pub gather-few : (work : List ℕ) (from n : ℕ) → GatheredTo kind cs work from limit n → n + 1 ≤ 2000000
+      gather-few work from n c = omega (arith, c .rest, ap length next, outlines-length (λ limit. layoutOf kind limit 0 cs) 2000000 2000000)
 
-      pub count-few : (n : ℕ) → CountedTo kind cs limit n → n + 1 ≤ 2000000
-      count-few n c = omega (arith, c .rest, ap length next, outlines-length (λ limit. layoutOf kind limit 0 cs) 2000000 2000000)
+      -- One more waits, if there is room for it.
+      module _ (old new : List ℕ) (from n : ℕ) (c : GatheredTo kind cs old from limit n) (k : PairKept (from + 2 * n) o old new) where
+        same-long : length new ≡ length old
+        same-long = go (order (from + 2 * n + 2) (length old))
+          where
+            go : (from + 2 * n + 2 ≤ length old) ⊎ (length old < from + 2 * n + 2) → length new ≡ length old
+            go (inl h) = put-long old new (from + 2 * n) (o .width .0) (o .height .0) h (k .put h)
+            go (inr h) = ap length (k .full h)
+
+        waits : from + 2 * (n + 1) ≤ length new → take (2 * (n + 1)) (drop from new) ≡ take (2 * n) (drop from old) ++ (o .width .0 ∷ o .height .0 ∷ [])
+        waits h =
+            let fits : from + 2 * n + 2 ≤ length old = omega (arith, same-long) in
+            let d = length-drop from old in
+            let e : 2 * (n + 1) ≡ 2 * n + 2 = omega arith in
+            rw e (put-front (drop from old) (drop from new) (2 * n) (o .width .0) (o .height .0) (omega arith) (ap (λ (l : List ℕ). drop from l) (k .put fits) ∙ pair-behind old from (2 * n) (o .width .0) (o .height .0) fits))
+
+        pub gather-more : GatheredTo kind cs new from (o .height .0 - 1) (n + 1)
+        unfolding pairsOf
+        gather-more = record {
+          most = omega (arith, falls, c .most);
+          rest = omega (arith, c .rest, ap length next);
+          waiting = λ h.
+              rw (waits h)
+              (append-assoc (take (2 * n) (drop from old)) (o .width .0 ∷ o .height .0 ∷ []) (pairsOf (outlinesTo kind cs (o .height .0 - 1)))
+              ∙ sym (ap (λ (os : List Outline). take (2 * n) (drop from old) ++ pairsOf os) next) ∙ c .waiting (omega (arith, same-long)));
+        }
 
       module _ (old new : List ℕ) (at : ℕ) (w : WrittenTo kind cs old new limit at) (room : 2 * length (allOutlines kind cs) ≤ length old) where
         pub pair-fits : at + 2 ≤ length new
         pair-fits = omega (arith, w .rest, w .long, ap length next)
+
+        pub pair-few : at + 2 ≤ 4000000
+        pair-few = omega (arith, w .rest, ap length next, outlines-length (λ limit. layoutOf kind limit 0 cs) 2000000 2000000)
 
         pub write-more : (put : List ℕ) → put ≡ take at new ++ (o .width .0 ∷ o .height .0 ∷ drop (at + 2) new) → WrittenTo kind cs old put (o .height .0 - 1) (at + 2)
         unfolding pairsOf
@@ -119,8 +184,23 @@ module _ (kind : Kind) (cs : List Component) (s : Stacked cs) where
               rest = omega (arith, w .rest, ap length next);
             }
 
-  pub count-all : (limit n : ℕ) → outlinesTo kind cs limit ≡ [] → CountedTo kind cs limit n → n ≡ length (allOutlines kind cs)
-  count-all limit n e c = omega (arith, c .rest, ap length e)
+  pub gather-all : (work : List ℕ) (from limit n : ℕ) → from ≡ planRoom kind → outlinesTo kind cs limit ≡ [] → GatheredTo kind cs work from limit n → Gathered kind cs work n
+  unfolding pairsOf
+  gather-all work from limit n f e c = record {
+    all = omega (arith, c .rest, ap length e);
+    waiting = λ h.
+        rw (← f)
+        (sym (append-nil (take (2 * n) (drop from work))) ∙ sym (ap (λ (os : List Outline). take (2 * n) (drop from work) ++ pairsOf os) e)
+        ∙ c .waiting (omega arith));
+  }
+
+  pub all-few : (n : ℕ) → n ≡ length (allOutlines kind cs) → n ≤ 2000000
+  all-few n e = omega (arith, outlines-length (λ limit. layoutOf kind limit 0 cs) 2000000 2000000)
+
+  pub copy-all : (work out out′ : List ℕ) (from n : ℕ) → from ≡ planRoom kind → Gathered kind cs work n → from + 2 * n ≤ length work → out′ ≡ take (2 * n) (drop from work) ++ drop (2 * n) out → out′ ≡ allInto kind cs out
+  copy-all work out out′ from n f g h e =
+      let w : take (2 * n) (drop from work) ≡ pairsOf (allOutlines kind cs) = rw f (g .waiting (omega arith)) in
+      e ∙ rw (w, g .all)
 
   pub write-all : (limit at : ℕ) (old new : List ℕ) → outlinesTo kind cs limit ≡ [] → WrittenTo kind cs old new limit at
       → new ≡ pairsOf (allOutlines kind cs) ++ drop (2 * length (allOutlines kind cs)) old
@@ -190,3 +270,7 @@ module _ (kind : Kind) (cs : List Component) (os : List Outline) (l : Listing ki
 
   pub the-table : (valid : Answer (List Component)) → valid ≡ result cs → TableAnswered kind out work out′ work′ answer valid → Known
   the-table valid e t = tabled-known (rw e at t)
+
+-- The stack that is planned.
+pub stacked-asks : {kind : Kind} {limit : ℕ} {hs ws gs widths heights ends es : List ℕ} → PlanAsks kind limit hs ws gs widths heights ends es → Stacked (componentsIn hs ws gs)
+stacked-asks {kind} {hs = hs} {ws = ws} {gs = gs} a = stacked kind hs ws gs (a .lists) (a .some)

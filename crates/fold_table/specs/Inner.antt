@@ -1,15 +1,16 @@
 -- What the functions inside this crate promise each other. Nothing here is part of a public promise.
-use Prim.Native.Nat.{ℕ, _+_, _*_, _≤_}
+use Prim.Native.Nat.{ℕ, _+_, _*_, _≤_, _<_}
 use mathlib.Core.Path.{_≡_}
-use mathlib.Core.List.{List, _++_}
+use mathlib.Core.List.{List, _∷_, _++_}
 use lib.ListN.{length, take, drop}
-use Rattle.terms.specs.Numbers.{mostLimit}
+use Rattle.terms.specs.Numbers.{mostLimit, leastWork}
 use Rattle.terms.specs.declared.Component.{Component}
 use Rattle.terms.specs.declared.Kind.{Kind}
 use Rattle.terms.specs.Answer.{Answer}
 use Rattle.terms.specs.Component.{componentsIn}
 use Rattle.folding.specs.declared.Outline.{Outline}
 use Rattle.layout.specs.Table.{outlines}
+use Rattle.plan.specs.Asks.{planRoom}
 use Rattle.fold.specs.Calls.{workCheck}
 use Rattle.fold_table.specs.Calls.{pairsOf, TableAnswered}
 
@@ -20,10 +21,28 @@ outlinesTo kind cs limit = outlines kind cs limit limit
 abbrev pub allOutlines : Kind → List Component → List Outline
 allOutlines kind cs = outlinesTo kind cs mostLimit
 
--- n of them are counted, those of at most `limit` rows are not.
-pub record CountedTo (kind : Kind) (cs : List Component) (limit n : ℕ) : Type 0 where
+-- A buffer with one more pair, from `at` on.
+abbrev pub pairAt : ℕ → Outline → List ℕ → List ℕ
+pairAt at o out = take at out ++ (o .width .0 ∷ o .height .0 ∷ drop (at + 2) out)
+
+-- Behind what planning takes, with a pair for each height.
+abbrev pub mostWaiting : ℕ
+mostWaiting = leastWork + 2 * mostLimit
+
+pub record PairKept (at : ℕ) (o : Outline) (old new : List ℕ) : Type 0 where
+  pub put : at + 2 ≤ length old → new ≡ pairAt at o old
+  pub full : length old < at + 2 → new ≡ old
+
+-- n of them are counted, those of at most `limit` rows are not. As long as there is room behind `from`, they wait there.
+pub record GatheredTo (kind : Kind) (cs : List Component) (work : List ℕ) (from limit n : ℕ) : Type 0 where
   pub most : limit ≤ mostLimit
   pub rest : n + length (outlinesTo kind cs limit) ≡ length (allOutlines kind cs)
+  pub waiting : from + 2 * n ≤ length work → take (2 * n) (drop from work) ++ pairsOf (outlinesTo kind cs limit) ≡ pairsOf (allOutlines kind cs)
+
+-- All are counted, and if there is room for all of them, they wait.
+pub record Gathered (kind : Kind) (cs : List Component) (work : List ℕ) (n : ℕ) : Type 0 where
+  pub all : n ≡ length (allOutlines kind cs)
+  pub waiting : planRoom kind + 2 * n ≤ length work → take (2 * n) (drop (planRoom kind) work) ≡ pairsOf (allOutlines kind cs)
 
 -- The first `at` numbers of the buffer are written, and the pairs of at most `limit` rows are not.
 pub record WrittenTo (kind : Kind) (cs : List Component) (old new : List ℕ) (limit at : ℕ) : Type 0 where

@@ -10,7 +10,7 @@ use Rattle.terms.specs.declared.Kind.the-variants.{Apart, Nested}
 use Rattle.terms.proofs.Answers.{most-256}
 use Rattle.plan.specs.Asks.{planRoom, PlanAsks, Plannable}
 
-room-most : (kind : Kind) → planRoom kind ≤ leastWork
+pub room-most : (kind : Kind) → planRoom kind ≤ leastWork
 room-most Apart = omega arith
 room-most Nested = omega arith
 

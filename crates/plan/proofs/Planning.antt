@@ -21,7 +21,7 @@ use Rattle.layout.specs.Layout.{Layout, unmet, empty, groups, layouts, layoutOf
 use Rattle.layout.specs.Table.{outline}
 use Rattle.layout.specs.Plan.{PlannedAt}
 use Rattle.plan.specs.declared.Best.{Best}
-use Rattle.plan.specs.Asks.{layoutIn, Later, FirstAsks, FromAsks, PlanAsks, PlannedFrom, PlanDone, gapBefore, KnownTo, Known, EntryAsks}
+use Rattle.plan.specs.Asks.{layoutIn, Later, FirstAsks, FromAsks, PlanAsks, PlannedFrom, PlanDone, gapBefore, planRoom, KnownTo, Known, EntryAsks}
 use Rattle.plan.proofs.Gaps.{gap-near}
 use Rattle.plan.proofs.Columns.{component-at, gap-last}
 use Rattle.layout.proofs.Groups.{groups-laws}
@@ -101,16 +101,17 @@ module _ {kind : Kind} {limit : ℕ} {hs ws gs widths heights ends es : List ℕ
   at-end : getD (layouts kind limit 0 (componentsIn hs ws gs)) (length hs) unmet ≡ empty
   at-end = ap (λ (z : ℕ). getD (layouts kind limit 0 cs) z unmet) (sym long) ∙ layouts-end (λ x. gap x) (candidateFor (groups kind) limit) cs 0
 
-  pub asks-again : {widths′ heights′ ends′ es′ : List ℕ} → length widths′ ≡ length widths → length heights′ ≡ length heights → length ends′ ≡ length ends → length es′ ≡ length es
-      → PlanAsks kind limit hs ws gs widths′ heights′ ends′ es′
-  asks-again lw lh le l = record {
+  -- With other lists of the same lengths, for a limit that is no higher.
+  pub asks-again : {limit′ : ℕ} {widths′ heights′ ends′ es′ : List ℕ} → limit′ ≤ limit → length widths′ ≡ length widths → length heights′ ≡ length heights → length ends′ ≡ length ends → planRoom kind ≤ length es′
+      → PlanAsks kind limit′ hs ws gs widths′ heights′ ends′ es′
+  asks-again h lw lh le room = record {
     lists = a .lists;
     some = a .some;
-    limit-most = a .limit-most;
+    limit-most = omega (arith, a .limit-most);
     widths-long = omega (arith, a .widths-long);
     heights-long = omega (arith, a .heights-long);
     ends-long = omega (arith, a .ends-long);
-    room = omega (arith, a .room);
+    room = room;
   }
 
   pub plan-start : PlannedFrom kind limit (componentsIn hs ws gs) (set widths (length hs) 0) (set heights (length hs) 0) (set ends (length hs) 0) (length hs)

@@ -4,72 +4,52 @@ use native.Mathlib.Omega.{arith}
 use borrow.Author.Needs.{needs}
 use Rattle.plan.proofs.plan_at.Statement.{statement}
 use Rattle.plan.proofs.plan_at.Tie as tie
-use Rattle.plan.proofs.plan_at.Reads as reads
-use Rattle.plan.proofs.plan_at.Lts as lts
-use Rattle.plan.proofs.best_from.Reads as best-from-reads
-use Rattle.plan.proofs.stays.Reads as stays-reads
 
--- src/lib.rt:364:28
 mul-stays : tie.Need-mul-stays
 mul-stays c = search needs
 
--- src/lib.rt:364:28
 slice-read-stays : tie.Need-slice-read-stays
 slice-read-stays c = search needs
 
--- src/lib.rt:364:8
 stays-requires : tie.Need-stays-requires
 stays-requires c κs = search needs
 
--- src/lib.rt:365:9
 returns : tie.Need-returns
 returns c = let s = c .before .stays .ensures (c .if1 .taken) in (plan-stays (c .before .before .before .before .before .before .before .before .before .before .pre) (s .0) (s .1), known-stays (c .before .before .before .before .before .before .before .before .before .before .pre) (s .0) (s .1))
 
--- src/lib.rt:367:9
 best-from-requires : tie.Need-best-from-requires
 best-from-requires c κs = from-asks (c .before .before .before .before .before .before .before .before .before .before .before .before .before .pre)
 
--- src/lib.rt:368:5
 mul-widths : tie.Need-mul-widths
 mul-widths c = omega (arith, c .before .before .before .before .before .before .before .before .before .before .before .before .before .before .before .before .pre .within, c .before .before .before .before .before .before .before .before .before .before .before .before .before .before .before .before .pre .asks .lists .few, most-256 (c .before .before .before .before .before .before .before .before .before .before .before .before .before .before .before .before .args .kind))
 
--- src/lib.rt:368:5
 slice-write-widths : tie.Need-slice-write-widths
 slice-write-widths c = search needs
 
--- src/lib.rt:369:5
 mul-heights : tie.Need-mul-heights
 mul-heights c = omega (arith, c .before .before .before .before .before .before .before .before .before .before .before .before .before .before .before .before .pre .within, c .before .before .before .before .before .before .before .before .before .before .before .before .before .before .before .before .pre .asks .lists .few, most-256 (c .before .before .before .before .before .before .before .before .before .before .before .before .before .before .before .before .args .kind))
 
--- src/lib.rt:369:5
 slice-write-heights : tie.Need-slice-write-heights
 slice-write-heights c = search needs
 
--- src/lib.rt:370:5
 mul-ends : tie.Need-mul-ends
 mul-ends c = omega (arith, c .before .before .before .before .before .before .before .before .before .before .before .before .before .before .before .before .pre .within, c .before .before .before .before .before .before .before .before .before .before .before .before .before .before .before .before .pre .asks .lists .few, most-256 (c .before .before .before .before .before .before .before .before .before .before .before .before .before .before .before .before .args .kind))
 
--- src/lib.rt:370:5
 slice-write-ends : tie.Need-slice-write-ends
 slice-write-ends c = search needs
 
--- src/lib.rt:343:1
 same-length : tie.Need-same-length
 same-length c = search needs
 
--- src/lib.rt:343:1
 same-length-2 : tie.Need-same-length-2
 same-length-2 c = search needs
 
--- src/lib.rt:343:1
 same-length-3 : tie.Need-same-length-3
 same-length-3 c = search needs
 
--- src/lib.rt:343:1
 same-length-4 : tie.Need-same-length-4
 same-length-4 c = search needs
 
--- src/lib.rt:343:1
 returns-2 : tie.Need-returns-2
 returns-2 c = (plan-more (c .before .before .before .before .before .before .before .before .before .before .before .before .before .before .before .before .pre) (c .before .before .best-from .result) (c .before .before .best-from .ensures), known-more (c .before .before .before .before .before .before .before .before .before .before .before .before .before .before .before .before .pre) (c .before .before .best-from .result))
 

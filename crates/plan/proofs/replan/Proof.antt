@@ -2,7 +2,7 @@ use Rattle.plan.proofs.Planning.{entry-asks}
 use Prim.Native.Nat.{_-_}
 use denote.Ref.{now}
 use Prim.Native.Nat.{_≤_}
-use mathlib.Core.Path.{_≡_, refl, sym, _∙_}
+use mathlib.Core.Path.{_≡_, refl, _∙_}
 use lib.ListN.{length, length-set}
 use Rattle.terms.specs.Component.{componentsIn}
 use Rattle.plan.specs.Asks.{PlanAsks, PlannedFrom, KnownTo}
@@ -10,9 +10,6 @@ use Rattle.plan.proofs.Planning.{asks-again, plan-start, known-start, p
 use native.Mathlib.Omega.{arith}
 use Rattle.plan.proofs.replan.Statement.{statement}
 use Rattle.plan.proofs.replan.Tie as tie
-use Rattle.plan.proofs.replan.Reads as reads
-use Rattle.plan.proofs.replan.Lts as lts
-use Rattle.plan.proofs.plan_at.Reads as plan-at-reads
 
 abbrev Inv-loop : tie.InvT-loop
 Inv-loop kind known limit h w g widths₀ heights₀ ends₀ work₀ i₀ widths heights ends work i =
@@ -23,75 +20,57 @@ Inv-loop kind known limit h w g widths₀ heights₀ ends₀ work₀ i₀ widths
 abbrev μ-loop : tie.MeasureT-loop
 μ-loop kind known limit h w g widths₀ heights₀ ends₀ work₀ i₀ widths heights ends work i = i
 
--- src/lib.rt:395:5
 mul-widths : tie.Need-mul-widths Inv-loop μ-loop
 mul-widths c = omega arith
 
--- src/lib.rt:395:5
 slice-write-widths : tie.Need-slice-write-widths Inv-loop μ-loop
 slice-write-widths c = omega arith
 
--- src/lib.rt:396:5
 mul-heights : tie.Need-mul-heights Inv-loop μ-loop
 mul-heights c = omega arith
 
--- src/lib.rt:396:5
 slice-write-heights : tie.Need-slice-write-heights Inv-loop μ-loop
 slice-write-heights c = omega arith
 
--- src/lib.rt:397:5
 mul-ends : tie.Need-mul-ends Inv-loop μ-loop
 mul-ends c = omega arith
 
--- src/lib.rt:397:5
 slice-write-ends : tie.Need-slice-write-ends Inv-loop μ-loop
 slice-write-ends c = omega arith
 
--- src/lib.rt:398:5
 loop-holds : tie.Need-loop-holds Inv-loop μ-loop
-loop-holds c = (plan-start (c .before .before .before .before .before .before .before .pre .0), known-start (c .before .before .before .before .before .before .before .pre .0) (c .before .before .before .before .before .before .before .pre .1), omega arith, asks-again (c .before .before .before .before .before .before .before .pre .0) (length-set (now (c .before .before .before .before .before .before .before .args .widths)) (length (now (c .before .before .before .before .before .before .before .args .h))) 0) (length-set (now (c .before .before .before .before .before .before .before .args .heights)) (length (now (c .before .before .before .before .before .before .before .args .h))) 0) (length-set (now (c .before .before .before .before .before .before .before .args .ends)) (length (now (c .before .before .before .before .before .before .before .args .h))) 0) refl, refl, refl, refl, refl)
+loop-holds c = (plan-start (c .before .before .before .before .before .before .before .pre .0), known-start (c .before .before .before .before .before .before .before .pre .0) (c .before .before .before .before .before .before .before .pre .1), omega arith, asks-again (c .before .before .before .before .before .before .before .pre .0) (omega arith) (length-set (now (c .before .before .before .before .before .before .before .args .widths)) (length (now (c .before .before .before .before .before .before .before .args .h))) 0) (length-set (now (c .before .before .before .before .before .before .before .args .heights)) (length (now (c .before .before .before .before .before .before .before .args .h))) 0) (length-set (now (c .before .before .before .before .before .before .before .args .ends)) (length (now (c .before .before .before .before .before .before .before .args .h))) 0) (c .before .before .before .before .before .before .before .pre .0 .room), refl, refl, refl, refl)
 
--- src/lib.rt:399:9
 sub-i : tie.Need-sub-i Inv-loop μ-loop
 sub-i c = omega arith
 
--- src/lib.rt:400:9
 plan-at-requires : tie.Need-plan-at-requires Inv-loop μ-loop
 plan-at-requires c κs = entry-asks (c .before .before .before .before .before .loop .i - 1) (c .before .before .before .before .before .loop .inv .3) (c .before .before .before .before .before .loop .inv .0) (c .before .before .before .before .before .loop .inv .1) (c .before .before .before .before .before .loop .inv .2) (omega arith)
 
--- src/lib.rt:398:5
 loop-less : tie.Need-loop-less Inv-loop μ-loop
 loop-less c = omega arith
 
--- src/lib.rt:398:5
 loop-again : tie.Need-loop-again Inv-loop μ-loop
-loop-again c = (c .before .before .before .before .before .before .before .before .plan-at .ensures .0, c .before .before .before .before .before .before .before .before .plan-at .ensures .1, omega arith, asks-again (c .before .before .before .before .before .before .before .before .before .before .before .before .before .before .loop .inv .3) (c .before .before .before .before .before .before .before .before .plan-at .kept .1 .1 .1 .1 .1 .1 .1 .0) (c .before .before .before .before .before .before .before .before .plan-at .kept .1 .1 .1 .1 .1 .1 .1 .1 .0) (c .before .before .before .before .before .before .before .before .plan-at .kept .1 .1 .1 .1 .1 .1 .1 .1 .1 .0) (c .before .before .before .before .before .before .before .before .plan-at .kept .1 .1 .1 .1 .1 .1 .1 .1 .1 .1 .0), c .before .before .before .before .before .before .before .before .plan-at .kept .1 .1 .1 .1 .1 .1 .1 .0 ∙ c .before .before .before .before .before .before .before .before .before .before .before .before .before .before .loop .inv .4, c .before .before .before .before .before .before .before .before .plan-at .kept .1 .1 .1 .1 .1 .1 .1 .1 .0 ∙ c .before .before .before .before .before .before .before .before .before .before .before .before .before .before .loop .inv .5, c .before .before .before .before .before .before .before .before .plan-at .kept .1 .1 .1 .1 .1 .1 .1 .1 .1 .0 ∙ c .before .before .before .before .before .before .before .before .before .before .before .before .before .before .loop .inv .6, c .before .before .before .before .before .before .before .before .plan-at .kept .1 .1 .1 .1 .1 .1 .1 .1 .1 .1 .0 ∙ c .before .before .before .before .before .before .before .before .before .before .before .before .before .before .loop .inv .7)
+loop-again c = (c .before .before .before .before .before .before .before .before .plan-at .ensures .0, c .before .before .before .before .before .before .before .before .plan-at .ensures .1, omega arith, asks-again (c .before .before .before .before .before .before .before .before .before .before .before .before .before .before .loop .inv .3) (omega arith) (c .before .before .before .before .before .before .before .before .plan-at .kept .1 .1 .1 .1 .1 .1 .1 .0) (c .before .before .before .before .before .before .before .before .plan-at .kept .1 .1 .1 .1 .1 .1 .1 .1 .0) (c .before .before .before .before .before .before .before .before .plan-at .kept .1 .1 .1 .1 .1 .1 .1 .1 .1 .0) (omega (arith, c .before .before .before .before .before .before .before .before .plan-at .kept .1 .1 .1 .1 .1 .1 .1 .1 .1 .1 .0, c .before .before .before .before .before .before .before .before .before .before .before .before .before .before .loop .inv .3 .room)), c .before .before .before .before .before .before .before .before .plan-at .kept .1 .1 .1 .1 .1 .1 .1 .0 ∙ c .before .before .before .before .before .before .before .before .before .before .before .before .before .before .loop .inv .4, c .before .before .before .before .before .before .before .before .plan-at .kept .1 .1 .1 .1 .1 .1 .1 .1 .0 ∙ c .before .before .before .before .before .before .before .before .before .before .before .before .before .before .loop .inv .5, c .before .before .before .before .before .before .before .before .plan-at .kept .1 .1 .1 .1 .1 .1 .1 .1 .1 .0 ∙ c .before .before .before .before .before .before .before .before .before .before .before .before .before .before .loop .inv .6, c .before .before .before .before .before .before .before .before .plan-at .kept .1 .1 .1 .1 .1 .1 .1 .1 .1 .1 .0 ∙ c .before .before .before .before .before .before .before .before .before .before .before .before .before .before .loop .inv .7)
 
--- src/lib.rt:403:23
 slice-read-t27 : tie.Need-slice-read-t27 Inv-loop μ-loop
 slice-read-t27 c = omega arith
 
--- src/lib.rt:404:22
 slice-read-t30 : tie.Need-slice-read-t30 Inv-loop μ-loop
 slice-read-t30 c = omega arith
 
--- src/lib.rt:375:1
 same-length : tie.Need-same-length Inv-loop μ-loop
 same-length c = c .before .before .before .loop .inv .4 ∙ length-set (now (c .before .before .before .before .before .before .before .before .before .before .before .args .widths)) (length (now (c .before .before .before .before .before .before .before .before .before .before .before .args .h))) 0
 
--- src/lib.rt:375:1
 same-length-2 : tie.Need-same-length-2 Inv-loop μ-loop
 same-length-2 c = c .before .before .before .loop .inv .5 ∙ length-set (now (c .before .before .before .before .before .before .before .before .before .before .before .args .heights)) (length (now (c .before .before .before .before .before .before .before .before .before .before .before .args .h))) 0
 
--- src/lib.rt:375:1
 same-length-3 : tie.Need-same-length-3 Inv-loop μ-loop
 same-length-3 c = c .before .before .before .loop .inv .6 ∙ length-set (now (c .before .before .before .before .before .before .before .before .before .before .before .args .ends)) (length (now (c .before .before .before .before .before .before .before .before .before .before .before .args .h))) 0
 
--- src/lib.rt:375:1
 same-length-4 : tie.Need-same-length-4 Inv-loop μ-loop
 same-length-4 c = c .before .before .before .loop .inv .7
 
--- src/lib.rt:375:1
 returns : tie.Need-returns Inv-loop μ-loop
 returns c = plan-done (c .before .before .before .loop .inv .3) (c .before .before .before .loop .inv .0) (omega arith)
 
