@@ -104,7 +104,7 @@ module _ {hs es : List ℕ} {x y row : ℕ} (r : OfferAsks hs es x y row) where
   }
 
   module _ (v : ℕ) (e : v ≡ min row (getD es (x * 65 + y) 0)) (some : 0 < x) (more : y < length hs) where
-    pub ready-set : Ready hs (set es (x * 65 + y) v)
+    ready-set : Ready hs (set es (x * 65 + y) v)
     ready-set = record {
       borders = record {
         few = r .ready .borders .few;

@@ -115,13 +115,14 @@ pub record RowCleared (m : ℕ) (old new : List ℕ) (p v : ℕ) : Type 0 where
   pub below : (i : ℕ) → i < p * stride + p → getD new i 0 ≡ getD old i 0
   pub beyond : (i : ℕ) → p * stride + m ≤ i → getD new i 0 ≡ getD old i 0
 
--- The rows below p are fresh, and the borders have not changed.
+-- Clearing the whole table.
 pub record ClearAsks (gs es : List ℕ) (both : ℕ) : Type 0 where
   pub some : 1 ≤ length gs
   pub few : length gs ≤ mostNested
   pub room : cells ≤ length es
   pub both-low : both ≤ mostSize
 
+-- The rows below p are fresh, and the borders have not changed.
 pub record Cleared (gs old new : List ℕ) (both p : ℕ) : Type 0 where
   pub fold : (x : ℕ) → 0 < x → x < p → getD new (x * stride + x) 0 ≡ both + getD gs (x - 1) 0
   pub far : (x y : ℕ) → 0 < x → x < p → x < y → y < length gs → getD new (x * stride + y) 0 ≡ none

@@ -1,5 +1,4 @@
 use Rattle.group_search.proofs.Searching.{clear-asks, move-asks, searched}
-use native.Mathlib.Omega.{arith}
 use borrow.Author.Needs.{needs}
 use Rattle.group_search.proofs.search.Statement.{statement}
 use Rattle.group_search.proofs.search.Tie as tie
