@@ -1,4 +1,4 @@
--- The pass over all fold points of a filled table finds the least height of the group.
+-- The pass over all fold points of a filled table finds one of the least height.
 use Prim.Native.Nat.{ℕ, _+_, _-_, _≤_, _<_, max}
 use mathlib.Core.Path.{_≡_, refl, sym, ap, _∙_}
 use mathlib.Core.Logic.{_⊎_, inl, inr}
@@ -116,7 +116,7 @@ module _ {g0 : ℕ} {hs ws gs old es : List ℕ} {cap : ℕ} (r : HeightAsks g0 
         go (inl h) = omega (arith, d .flat-most, flat-is, way-flat g0 cs cap p (omega arith))
         go (inr h) = omega (arith, d .fold-most p s (omega (arith, long)), fold-is p s (omega (arith, long, r .gaps-long)), way-fold g0 cs cap p h)
 
-    pub is-least : v ≡ leastHeight Nested g0 cs cap
+    is-least : v ≡ leastHeight Nested g0 cs cap
     is-least =
         let f = fold-point (mayStand Nested) cs g0 cap (allowed-some (mayStand Nested) cs at allowed) in
         le-antisymm (omega (arith, f .1 .least, none-lower (f .0) (f .1 .some) (f .1 .within)))

@@ -33,3 +33,7 @@ pub record Pass (g0 : ℕ) (gs es : List ℕ) (k v p : ℕ) : Type 0 where
   pub flat-most : v ≤ flatBy g0 gs es
   pub fold-most : (q : ℕ) → 0 < q → q ≤ k → v ≤ foldBy g0 gs es q
   pub point : Point g0 gs es v p
+
+-- No way is lower than that with p components on the left.
+abbrev pub Lowest : ℕ → List ℕ → List ℕ → ℕ → Type 0
+Lowest g0 gs es p = (v : ℕ) × Pass g0 gs es (length gs - 1) v p

@@ -1,4 +1,5 @@
--- What the functions inside this crate promise each other. Nothing here is part of a public promise.
+-- What the functions inside this crate promise each other; `Sharing`, `Low`, `TopDone` and `SideDone` belong to what other
+-- crates call. Nothing here is part of a public promise.
 use Prim.Native.Nat.{ℕ, _+_, _-_, _*_, _≤_, _<_, min}
 use mathlib.Core.Path.{_≡_}
 use mathlib.Core.List.{List}

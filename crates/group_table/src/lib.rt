@@ -12,7 +12,7 @@ use numbers::lesser;
 use terms::Slices;
 
 // Whether two components stand beside each other at the ends of a walk.
-fn beside(w: &[u16], p: usize, q: usize, cap: Slices) -> bool
+pub fn beside(w: &[u16], p: usize, q: usize, cap: Slices) -> bool
     requires { ⌜ (p ≤ length (now w)) × (q ≤ length (now w)) ⌝ }
     ensures { λ r. ⌜ Sharing (now (w .entry)) (cap .0) p q r ⌝ }
 {
@@ -78,7 +78,7 @@ fn fill_row(h: &[u16], w: &[u16], e: &mut [u32], p: usize, cap: Slices)
 }
 
 // Row 0: the sums of the heights from each column on.
-fn fill_top(h: &[u16], e: &mut [u32])
+pub fn fill_top(h: &[u16], e: &mut [u32])
     requires { ⌜ Low (now h) (now e) ⌝ }
     ensures { λ _. ⌜ TopDone (now (h .entry)) (now (e .exit)) 0 ⌝ }
 {
@@ -92,7 +92,7 @@ fn fill_top(h: &[u16], e: &mut [u32])
 }
 
 // The last column: the sums of the heights below each row.
-fn fill_side(h: &[u16], e: &mut [u32])
+pub fn fill_side(h: &[u16], e: &mut [u32])
     requires { ⌜ Low (now h) (now e) × (getD (now e) (length (now h)) 0 ≡ 0) ⌝ }
     ensures { λ _. ⌜ SideDone (now (h .entry)) (now (e .entry)) (now (e .exit)) (length (now (h .entry))) ⌝ }
 {

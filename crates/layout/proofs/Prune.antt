@@ -13,7 +13,7 @@ use Rattle.terms.proofs.Order.{order}
 use Rattle.model.specs.Groups.{isEnd}
 use Rattle.model.specs.Layout.{candidateFor, scanBy}
 use Rattle.model.proofs.Choice.{Fair}
-use Rattle.model.proofs.Candidates.{skip-group, skip-wide, skip-cap}
+use Rattle.model.proofs.Candidates.{skip-group, skip-wide, skip-tie}
 use Rattle.model.proofs.Scan.{scan-next, scan-fair}
 use Rattle.group.specs.Group.{none, widest, May, leastWidthBy}
 use Rattle.group.proofs.Ways.{Suits}
@@ -27,14 +27,6 @@ module _ (may : Bool → May) (limit g0 : ℕ) (last : Bool) (group : List Compo
   abbrev width : ℕ
   width = leastWidthBy (may last) g0 group limit
 
-  -- No group is narrower than its widest.
-  pub skip-widest : b .width < rest .width + widest group → choice here b ≡ b
-  skip-widest h = skip-wide (groupsBy may) limit g0 last group rest k b f (λ n. go n (least-range (may last) g0 group limit))
-    where
-      go : width < none → Ranged (may last) g0 group limit width → b .width < width + rest .width
-      go n (inl e) = absurd (omega arith)
-      go n (inr e) = omega (arith, e .0)
-
   -- The group does not keep the limit within any cap.
   skip-none : 2 * widest group < width → choice here b ≡ b
   skip-none o = go (least-range (may last) g0 group limit)
@@ -43,13 +35,30 @@ module _ (may : Bool → May) (limit g0 : ℕ) (last : Bool) (group : List Compo
       go (inl e) = skip-group (groupsBy may) limit g0 last group rest k b f (omega arith)
       go (inr e) = absurd (omega (arith, e .1))
 
-  -- The cap is the smaller of what any group needs at most and what the layout in hand leaves.
-  pub skip-both : (cap : ℕ) → cap ≡ min (2 * widest group) (b .width - rest .width) → rest .width ≤ b .width → cap < width → choice here b ≡ b
-  skip-both cap e h o = go (order (2 * widest group) (b .width - rest .width))
-    where
-      go : (2 * widest group ≤ b .width - rest .width) ⊎ (b .width - rest .width < 2 * widest group) → choice here b ≡ b
-      go (inl u) = skip-none (omega arith)
-      go (inr u) = skip-cap (groupsBy may) limit g0 last group rest k b f cap (omega arith) o
+  -- From the width n on a layout with this rest is no better than the one in hand.
+  module _ (n : ℕ) (from : b .width ≤ n) (tie : n ≤ b .width → b .height ≤ rest .height) where
+    skip-from : (width < none → n ≤ width + rest .width) → choice here b ≡ b
+    skip-from h = go (order n (b .width))
+      where
+        go : (n ≤ b .width) ⊎ (b .width < n) → choice here b ≡ b
+        go (inl p) = skip-tie (groupsBy may) limit g0 last group rest k b f (λ m. omega (arith, h m)) (tie p)
+        go (inr p) = skip-wide (groupsBy may) limit g0 last group rest k b f (λ m. omega (arith, h m))
+
+    -- No group is narrower than its widest.
+    pub skip-widest : n ≤ rest .width + widest group → choice here b ≡ b
+    skip-widest h = skip-from (λ m. go m (least-range (may last) g0 group limit))
+      where
+        go : width < none → Ranged (may last) g0 group limit width → n ≤ width + rest .width
+        go m (inl e) = absurd (omega arith)
+        go m (inr e) = omega (arith, e .0)
+
+    -- The cap is the smaller of what any group needs at most and what the layout in hand leaves.
+    pub skip-both : (cap : ℕ) → cap ≡ min (2 * widest group) (n - 1 - rest .width) → cap < width → choice here b ≡ b
+    skip-both cap e o = go (order (2 * widest group) (n - 1 - rest .width))
+      where
+        go : (2 * widest group ≤ n - 1 - rest .width) ⊎ (n - 1 - rest .width < 2 * widest group) → choice here b ≡ b
+        go (inl u) = skip-none (omega arith)
+        go (inr u) = skip-from (λ m. omega arith)
 
 -- From the first group on that is too tall nothing changes.
 module _ (kind : Kind) (may : Bool → May) (suits : (last : Bool) → Suits kind (may last)) (limit g0 : ℕ) (cs : List Component) (later : List Layout) (k : ℕ) (t : TooTall kind limit (take (suc k) cs)) where

@@ -1,5 +1,5 @@
 -- Candidates of a model: what they are, and which need not be looked at, since they would not be chosen.
-use Prim.Native.Nat.{ℕ, _+_, _≤_, _<_}
+use Prim.Native.Nat.{ℕ, _+_, _≤_, _<_, max}
 use mathlib.Core.Path.{_≡_, refl}
 use mathlib.Core.Logic.{_⊎_, inl, inr}
 use mathlib.Core.List.{List}
@@ -9,8 +9,8 @@ use lib.Dec.{ltb}
 use borrow.Author.Tests.{lt-ltb, le-ltb, ltb-true}
 use Rattle.terms.proofs.Order.{order}
 use Rattle.model.specs.Groups.{none, Model}
-use Rattle.model.specs.Layout.{Layout, unmet, choice, joinedFor, candidateFor}
-use Rattle.model.proofs.Choice.{and-none, choice-keeps, Fair, choice-unmet}
+use Rattle.model.specs.Layout.{Layout, unmet, choice, NoWorse, joinedFor, candidateFor}
+use Rattle.model.proofs.Choice.{no-wider-nor-higher, and-none, choice-keeps, Fair, choice-unmet}
 
 -- What is met only if two tests are, is met: both are.
 pub met-both : (a b : Bool) (x : Layout) → cond (a && b) x unmet .width < none → (a ≡ true) × (b ≡ true)
@@ -42,15 +42,19 @@ module _ {C : Type 0} (model : Model C) (limit g0 : ℕ) (last : Bool) (group : 
     pub skip-rest : none ≤ rest .width → choice (candidateFor model limit g0 last group rest k) b ≡ b
     skip-rest h = rw (rest-unmet h) (choice-unmet b f)
 
-    -- A candidate that would be wider than what is in hand.
-    pub skip-wide : (width < none → b .width < width + rest .width) → choice (candidateFor model limit g0 last group rest k) b ≡ b
-    skip-wide h = go (order none width) (order none (rest .width))
+    -- A candidate than which what is in hand is no worse, where both group and rest keep the limit.
+    skip-worse : (width < none → NoWorse b (width + rest .width) (max (model .height limit g0 last group) (rest .height))) → choice (candidateFor model limit g0 last group rest k) b ≡ b
+    skip-worse h = go (order none width) (order none (rest .width))
       where
         go : (none ≤ width) ⊎ (width < none) → (none ≤ rest .width) ⊎ (rest .width < none) → choice (candidateFor model limit g0 last group rest k) b ≡ b
         go (inl p) q = skip-group p
         go (inr p) (inl q) = skip-rest q
-        go (inr p) (inr q) = rw (candidate-is p q) (choice-keeps (joinedFor model limit g0 last group rest k) b (inl (h p)))
+        go (inr p) (inr q) = rw (candidate-is p q) (choice-keeps (joinedFor model limit g0 last group rest k) b (h p))
 
-    -- The group does not keep the limit within the cap that what is in hand leaves it.
-    pub skip-cap : (cap : ℕ) → b .width ≤ cap + rest .width → cap < width → choice (candidateFor model limit g0 last group rest k) b ≡ b
-    skip-cap cap h o = skip-wide (λ n. omega arith)
+    -- A candidate that would be wider than what is in hand.
+    pub skip-wide : (width < none → b .width < width + rest .width) → choice (candidateFor model limit g0 last group rest k) b ≡ b
+    skip-wide h = skip-worse (λ n. inl (h n))
+
+    -- One that would be no narrower, with a rest that is no lower than what is in hand.
+    pub skip-tie : (width < none → b .width ≤ width + rest .width) → b .height ≤ rest .height → choice (candidateFor model limit g0 last group rest k) b ≡ b
+    skip-tie h l = skip-worse (λ n. no-wider-nor-higher (h n) (λ e. omega arith))

@@ -16,7 +16,7 @@ use Rattle.group.specs.Group.{none, gapAfter, widest, flatHeight, mayStand, lea
 use Rattle.terms.proofs.Order.{order}
 use Rattle.group.proofs.Ways.{SomeWay, suits, some-way}
 use Rattle.group.proofs.Falls.{apart-height}
-use Rattle.group_height.specs.Heights.{WidthAsks, Narrow}
+use Rattle.group_search.specs.Widths.{LowAsks, Narrow}
 use Rattle.layout.specs.Layout.{Layout, groups, candidate, choice}
 use Rattle.layout.specs.Plan.{StackLists}
 use Rattle.plan.specs.declared.Best.{Best}
@@ -44,6 +44,16 @@ module _ {kind : Kind} {limit g0 wide : ℕ} {hs ws gs : List ℕ} {best rest : 
   pub wide-4000 : wide ≤ 4000
   wide-4000 = omega (arith, a .widest-is, widest-4000 kind hs ws gs (a .lists))
 
+  pub best-low : best .width .0 ≤ none
+  best-low = go (a .fair)
+    where
+      go : (best .width .0 < none) ⊎ ((best .width .0 ≡ none) × (best .height .0 ≤ none)) → best .width .0 ≤ none
+      go (inl p) = omega arith
+      go (inr p) = omega (arith, p .0)
+
+  flat-is : (rows last : ℕ) → rows ≡ tall (componentsIn hs ws gs) → last ≡ getD gs (length hs - 1) 0 → rows + g0 + last ≡ flatHeight g0 (componentsIn hs ws gs)
+  flat-is rows last t l = omega (arith, gap-end hs ws gs (a .some))
+
   pub rest-none : none ≤ rest .width .0 → layoutIn best ≡ choice (candidate kind limit g0 (componentsIn hs ws gs) (layoutIn rest) (length hs)) (layoutIn best)
   rest-none h = sym (skip-rest (groups kind) limit g0 true (componentsIn hs ws gs) (layoutIn rest) (length hs) (layoutIn best) (a .fair) h)
 
@@ -54,7 +64,7 @@ module _ {limit g0 wide : ℕ} {hs ws gs : List ℕ} {best rest : Best} (a : Gro
   some-in = some-way Apart (componentsIn hs ws gs) (omega (arith, components-length hs ws gs, a .some))
 
   flat : flatHeight g0 (componentsIn hs ws gs) ≡ rows + g0 + last
-  flat = omega (arith, gap-end hs ws gs (a .some))
+  flat = sym (flat-is a rows last t l)
 
   pub flat-high : limit < rows + g0 + last → layoutIn best ≡ choice (candidate Apart limit g0 (componentsIn hs ws gs) (layoutIn rest) (length hs)) (layoutIn best)
   flat-high h =
@@ -73,44 +83,53 @@ module _ {limit g0 wide : ℕ} {hs ws gs : List ℕ} {best rest : Best} (a : Gro
   abbrev w : ℕ
   w = leastWidth Nested g0 (componentsIn hs ws gs) limit
 
-  pub narrow-asks : (es : List ℕ) (cap : ℕ) → 4225 ≤ length es → wide ≤ cap → cap ≤ 2 * wide → WidthAsks g0 hs ws gs es limit wide cap
-  narrow-asks es cap room c d = record {
+  pub narrow-asks : (es : List ℕ) (rows last cap : ℕ) → 4225 ≤ length es → rows ≡ tall (componentsIn hs ws gs) → last ≡ getD gs (length hs - 1) 0 → wide ≤ cap → cap ≤ 2 * wide
+      → LowAsks g0 (rows + g0 + last) hs ws gs es limit wide wide cap
+  narrow-asks es rows last cap room t l c d = record {
     asks = record {
-      table = record { columns = record { same = a .lists .same-widths; low = a .lists .low; slim = a .lists .slim }; few = a .lists .few; room = omega arith };
-      some = a .some;
-      gaps-long = a .lists .same-gaps;
-      gaps-low = a .lists .near;
-      first-low = a .before;
+      asks = record {
+        table = record { columns = record { same = a .lists .same-widths; low = a .lists .low; slim = a .lists .slim }; few = a .lists .few; room = omega arith };
+        some = a .some;
+        gaps-long = a .lists .same-gaps;
+        gaps-low = a .lists .near;
+        first-low = a .before;
+      };
+      is-widest = a .widest-is;
+      from = c;
+      to = d;
+      limit-low = a .limit-most;
     };
-    is-widest = a .widest-is;
-    from = c;
-    to = d;
-    limit-low = a .limit-most;
+    is-flat = flat-is a rows last t l;
+    from = omega arith;
+    to = c;
+    over = λ c l u. absurd (omega arith);
   }
 
-  pub folds-wide : best .width .0 < rest .width .0 + wide → layoutIn best ≡ choice (candidate Nested limit g0 (componentsIn hs ws gs) (layoutIn rest) (length hs)) (layoutIn best)
-  folds-wide h =
-      sym (skip-widest (λ last. mayStand Nested) limit g0 true (componentsIn hs ws gs) (layoutIn rest) (length hs) (layoutIn best) (a .fair) (omega (arith, a .widest-is)))
+  -- From the width b on a layout with this rest is no better than the best one.
+  module _ (b : ℕ) (from : (best .width .0 ≤ b) × (b ≤ best .width .0 → best .height .0 ≤ rest .height .0)) where
+    pub folds-wide : b ≤ rest .width .0 + wide → layoutIn best ≡ choice (candidate Nested limit g0 (componentsIn hs ws gs) (layoutIn rest) (length hs)) (layoutIn best)
+    folds-wide h =
+        sym (skip-widest (λ last. mayStand Nested) limit g0 true (componentsIn hs ws gs) (layoutIn rest) (length hs) (layoutIn best) (a .fair) b (from .0) (from .1) (omega (arith, a .widest-is)))
 
-  module _ (cap nw nh : ℕ) (o : rest .width .0 < none) (q : rest .width .0 + wide ≤ best .width .0) (e : cap ≡ min (2 * wide) (best .width .0 - rest .width .0)) (n : Narrow g0 hs ws gs limit cap nw nh) where
-    pub folds-none : none ≤ nw → layoutIn best ≡ choice (candidate Nested limit g0 (componentsIn hs ws gs) (layoutIn rest) (length hs)) (layoutIn best)
-    folds-none h = sym (go (order w cap))
-      where
-        go : (w ≤ cap) ⊎ (cap < w) → choice (candidate Nested limit g0 (componentsIn hs ws gs) (layoutIn rest) (length hs)) (layoutIn best) ≡ layoutIn best
-        go (inl p) = absurd (omega (arith, n .within p .0, wide-4000 a))
-        go (inr p) =
-            skip-both (λ last. mayStand Nested) limit g0 true (componentsIn hs ws gs) (layoutIn rest) (length hs) (layoutIn best) (a .fair) cap (omega (arith, a .widest-is)) (omega arith) p
+    module _ (cap nw nh : ℕ) (e : cap ≡ min (2 * wide) (b - 1 - rest .width .0)) (n : Narrow g0 hs ws gs limit cap nw nh) where
+      pub folds-none : none ≤ nw → layoutIn best ≡ choice (candidate Nested limit g0 (componentsIn hs ws gs) (layoutIn rest) (length hs)) (layoutIn best)
+      folds-none h = sym (go (order w cap))
+        where
+          go : (w ≤ cap) ⊎ (cap < w) → choice (candidate Nested limit g0 (componentsIn hs ws gs) (layoutIn rest) (length hs)) (layoutIn best) ≡ layoutIn best
+          go (inl p) = absurd (omega (arith, n .within p .0, wide-4000 a))
+          go (inr p) =
+              skip-both (λ last. mayStand Nested) limit g0 true (componentsIn hs ws gs) (layoutIn rest) (length hs) (layoutIn best) (a .fair) b (from .0) (from .1) cap (omega (arith, a .widest-is)) p
 
-    pub folds-tried : (r : Layout) (height end : ℕ) → nw < none → height ≡ max nh (rest .height .0) → end ≡ length hs
-        → r ≡ choice (record { width = nw + rest .width .0; height = height; end = end }) (layoutIn best)
-        → r ≡ choice (candidate Nested limit g0 (componentsIn hs ws gs) (layoutIn rest) (length hs)) (layoutIn best)
-    folds-tried r height end h eh ee er = go (order w cap)
-      where
-        go : (w ≤ cap) ⊎ (cap < w) → r ≡ choice (candidate Nested limit g0 (componentsIn hs ws gs) (layoutIn rest) (length hs)) (layoutIn best)
-        go (inr p) = absurd (omega (arith, n .over p))
-        go (inl p) =
-            let f = n .within p in
-            rw (candidate-is (groups Nested) limit g0 true (componentsIn hs ws gs) (layoutIn rest) (length hs) (omega (arith, f .0)) o, ← f .0, ← f .1, ← eh, ← ee) er
+      pub folds-tried : (r : Layout) (height end : ℕ) → rest .width .0 < none → nw < none → height ≡ max nh (rest .height .0) → end ≡ length hs
+          → r ≡ choice (record { width = nw + rest .width .0; height = height; end = end }) (layoutIn best)
+          → r ≡ choice (candidate Nested limit g0 (componentsIn hs ws gs) (layoutIn rest) (length hs)) (layoutIn best)
+      folds-tried r height end o h eh ee er = go (order w cap)
+        where
+          go : (w ≤ cap) ⊎ (cap < w) → r ≡ choice (candidate Nested limit g0 (componentsIn hs ws gs) (layoutIn rest) (length hs)) (layoutIn best)
+          go (inr p) = absurd (omega (arith, n .over p))
+          go (inl p) =
+              let f = n .within p in
+              rw (candidate-is (groups Nested) limit g0 true (componentsIn hs ws gs) (layoutIn rest) (length hs) (omega (arith, f .0)) o, ← f .0, ← f .1, ← eh, ← ee) er
 
 -- The first k components of longer columns.
 pub first-tried : (kind : Kind) (limit g0 k : ℕ) (hs : List ℕ) (group : List Component) (rest best r : Layout) → k ≤ length hs

@@ -109,11 +109,24 @@ fn try_flat(
     )
 }
 
+// From this width on a layout in front of the rest is no better than the best one. As wide as that it can be better only if
+// the rest is lower.
+fn too_wide(best: Best, rest: Best) -> Slices
+    requires { ⌜ best .width .0 ≤ none ⌝ }
+    ensures { λ r. ⌜ (best .width .0 ≤ r .0) × (r .0 ≤ best .width .0 → best .height .0 ≤ rest .height .0) ⌝ }
+{
+    if rest.height.0 < best.height.0 {
+        return Slices(best.width.0 + 1);
+    }
+    best.width
+}
+
 // A group with the fold that makes it narrowest in front of the rest. A group that is too wide to improve the best layout
 // need not be searched.
 fn try_folds(
     limit: Rows,
     g0: Rows,
+    tall: Rows,
     widest: Slices,
     h: &[u16],
     w: &[u16],
@@ -123,6 +136,7 @@ fn try_folds(
     work: &mut [u32],
 ) -> Best
     requires { ⌜ GroupAsks Nested (limit .0) (g0 .0) (widest .0) (now h) (now w) (now g) best rest ⌝ }
+    requires { ⌜ Packed (tall .0) (now h) (now w) (now g) ⌝ }
     requires { ⌜ planRoom Nested ≤ length (now work) ⌝ }
     ensures { λ r. ⌜ layoutIn r
         ≡ tried Nested (limit .0) (g0 .0) (length (now (h .entry)))
@@ -131,11 +145,14 @@ fn try_folds(
     if NONE <= rest.width.0 {
         return best;
     }
-    if best.width.0 < rest.width.0 + widest.0 {
+    let bound = too_wide(best, rest);
+    if bound.0 <= rest.width.0 + widest.0 {
         return best;
     }
-    let cap = Slices(lesser(2 * widest.0, best.width.0 - rest.width.0));
-    let n = group_height::narrowest(g0, h, w, g, work, limit, widest, cap);
+    let cap = Slices(lesser(2 * widest.0, bound.0 - 1 - rest.width.0));
+    let k = h.len();
+    let flat = Rows(tall.0 + g0.0 + wide(g[k - 1]));
+    let n = group_search::narrowest(g0, flat, h, w, g, work, limit, widest, widest, cap);
     if NONE <= n.width.0 {
         return best;
     }
@@ -143,7 +160,7 @@ fn try_folds(
         Best {
             width: Slices(n.width.0 + rest.width.0),
             height: Rows(larger(n.height.0, rest.height.0)),
-            end: count(h.len()),
+            end: count(k),
         },
         best,
     )
@@ -171,7 +188,7 @@ fn try_group(
 {
     match kind {
         Kind::Apart => try_flat(limit, g0, tall, widest, h, w, g, best, rest),
-        Kind::Nested => try_folds(limit, g0, widest, h, w, g, best, rest, work),
+        Kind::Nested => try_folds(limit, g0, tall, widest, h, w, g, best, rest, work),
     }
 }
 

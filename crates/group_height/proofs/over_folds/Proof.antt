@@ -59,7 +59,7 @@ loop-again : tie.Need-loop-again Inv-loop μ-loop
 loop-again c = elim (c .if1 .came) [ inl k ↦ pass-lower (c .before .before .before .before .before .before .before .before .before .before .pre) (c .before .before .before .before .loop .inv) (c .before .before .before .loop-test .taken) _ (omega (arith, c .before .before .fold-cell .ensures, c .before .before .before .before .before .before .larger .ensures, c .before .before .before .before .before .before .before .get .ensures .0, c .before .get2 .ensures .0)) _ _ (k .0 .taken) (k .1) (k .2) | inr k ↦ pass-on (c .before .before .before .before .before .before .before .before .before .before .pre) (c .before .before .before .before .loop .inv) (c .before .before .before .loop-test .taken) _ (omega (arith, c .before .before .fold-cell .ensures, c .before .before .before .before .before .before .larger .ensures, c .before .before .before .before .before .before .before .get .ensures .0, c .before .get2 .ensures .0)) _ _ (k .0 .left) (k .1) (k .2) ]
 
 returns : tie.Need-returns Inv-loop μ-loop
-returns c = pass-ends (c .before .before .before .before .before .before .before .pre) (c .before .loop .inv) (c .loop-test .left)
+returns c = (_, pass-ends (c .before .before .before .before .before .before .before .pre) (c .before .loop .inv) (c .loop-test .left))
 
 pub over-folds-spec : {M : Type 1} → statement M
 over-folds-spec =

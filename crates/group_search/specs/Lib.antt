@@ -1,0 +1,3 @@
+pub mod Outward
+pub mod Widths
+pub mod Inner
