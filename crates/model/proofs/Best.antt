@@ -70,6 +70,10 @@ module _ {F : Type 0} {Legal : F → Type 0} {outlineOf : F → Outline} {best :
         go (inr h) (inl u) = absurd (omega (arith, kept))
         go (inl h) (inl u) = as-high (others-wider lim other l h) u
 
+    -- What a layout within the width has as its height is no lower: halving may go down to it.
+    pub no-lower : (mid : ℕ) → best mid .width < none → best mid .width ≤ w → lim ≤ best mid .height
+    no-lower mid m h = let r = s .some mid m in rw (r .2) at (not-below (r .0) (r .1) (rw (r .2) h))
+
   pub unmeetable-width : (w : ℕ) → w < best mostLimit .width → (f : F) → Legal f → outlineOf f .width .0 ≤ w → ⊥
   unmeetable-width w n f l k =
       let e = s .every mostLimit f l (s .low f l) in

@@ -4,6 +4,7 @@ pub mod Recurrence
 pub mod Candidates
 pub mod First
 pub mod Layouts
+pub mod Widths
 pub mod Transfer
 pub mod Best
 pub mod Table
