@@ -3,7 +3,7 @@ use Prim.Native.Nat.{ℕ, _+_, _*_, _≤_, _<_}
 use mathlib.Core.Path.{_≡_}
 use mathlib.Core.List.{List}
 use lib.ListN.{length, take, drop}
-use Rattle.terms.specs.Numbers.{mostLimit}
+use Rattle.terms.specs.Numbers.{mostSize, mostApart, mostLimit}
 use Rattle.terms.specs.declared.Component.{Component}
 use Rattle.terms.specs.declared.Kind.{Kind}
 use Rattle.terms.specs.Answer.{Answer, refusal, result}
@@ -11,11 +11,12 @@ use Rattle.terms.specs.Component.{componentsIn}
 use Rattle.folding.specs.declared.Outline.{Outline}
 use Rattle.folding.specs.declared.Placement.{Placement}
 use Rattle.folding.specs.Placement.{placementsOf}
-use Rattle.group.specs.Group.{none}
+use Rattle.group.specs.Group.{none, widest, flatHeight}
 use Rattle.layout.specs.Layout.{layoutOf}
 use Rattle.layout.specs.Plan.{StackLists}
 use Rattle.layout.proofs.Folds.{Folds}
 use Rattle.plan.specs.Asks.{Plannable, bestAt}
+use Rattle.fold.specs.declared.Flat.{Flat}
 use Rattle.fold.specs.Calls.{foldChecks, Answered}
 
 -- A stack that stands in the first n entries of three lists.
@@ -52,14 +53,27 @@ pub record LeastFor (kind : Kind) (cs : List Component) (w limit : ℕ) : Type 0
   pub within : layoutOf kind limit 0 cs .width ≤ w
   pub below : (k : ℕ) → limit ≡ k + 1 → w < layoutOf kind k 0 cs .width
 
--- Halving: between lo and hi.
-pub record Halving (kind : Kind) (cs : List Component) (w lo hi : ℕ) : Type 0 where
+-- It lies between lo and hi.
+pub record Between (kind : Kind) (cs : List Component) (w lo hi : ℕ) : Type 0 where
   pub order : lo ≤ hi
   pub most : hi ≤ mostLimit
   pub within : layoutOf kind hi 0 cs .width ≤ w
   pub below : (k : ℕ) → lo ≡ k + 1 → w < layoutOf kind k 0 cs .width
 
--- What it asks: a stack with room to plan it, and a height for which the best layout is narrow enough.
-abbrev pub HalvingAsks : Kind → List ℕ → List ℕ → List ℕ → List ℕ → ℕ → ℕ → Type 0
-HalvingAsks kind hs ws gs work most top =
-    Plannable kind hs ws gs work × (most ≤ mostLimit) × Halving kind (componentsIn hs ws gs) most 1 top
+-- What the search for it asks: a stack with room to plan it, and a height for which the best layout is narrow enough.
+pub record LeastAsks (kind : Kind) (hs ws gs work : List ℕ) (w top : ℕ) : Type 0 where
+  pub plannable : Plannable kind hs ws gs work
+  pub w-some : 0 < w
+  pub w-most : w ≤ mostLimit
+  pub between : Between kind (componentsIn hs ws gs) w 1 top
+
+-- No stack has more rows times slices in its components.
+abbrev pub mostArea : ℕ
+mostArea = mostApart * mostSize * mostSize
+
+-- A stack without a fold.
+pub record Unfolded (cs : List Component) (f : Flat) : Type 0 where
+  pub widest-is : f .widest .0 ≡ widest cs
+  pub height-is : f .height .0 ≡ flatHeight 0 cs
+  pub low : f .height .0 ≤ mostLimit
+  pub area-most : f .area ≤ mostArea

@@ -1,13 +1,22 @@
 // Fold to height and fold to width.
 ghost use mathlib.Core.Path.{_≡_};
+ghost use Prim.Native.Nat.{_*_, _≤_, _<_};
+ghost use lib.ListN.{length};
+ghost use Rattle.terms.specs.Numbers.{mostLimit};
+ghost use Rattle.terms.specs.declared.Kind.the-variants.{Apart};
 ghost use Rattle.terms.specs.Answer.{countAnswer};
 ghost use Rattle.terms.specs.Component.{componentsIn};
 ghost use Rattle.folding.specs.Best.{BestForHeight, BestForWidth, UnmeetableHeight, UnmeetableWidth};
 ghost use Rattle.folding.specs.Calls.{measuredAnswer};
+ghost use Rattle.layout.specs.Plan.{StackLists};
 ghost use Rattle.fold.specs.Calls.{foldChecks, Searched, ToHeight, ToWidth};
-ghost use Rattle.fold.specs.Inner.{FirstLists, Foldable, FirstAnswered, Written, HalvingAsks, LeastFor};
+ghost use Rattle.fold.specs.Inner.{FirstLists, Foldable, FirstAnswered, Written};
+ghost use Rattle.fold.specs.Inner.{LeastFor, LeastAsks, mostArea, Unfolded};
 use folding::Measured;
+use folding::Outline;
 use group::NONE;
+use numbers::get;
+use numbers::larger;
 use plan::LISTED;
 use terms::Counted;
 use terms::Kind;
@@ -17,6 +26,22 @@ use terms::MOST_LIMIT;
 use terms::Refusal;
 use terms::Rows;
 use terms::Slices;
+
+// The plans of a search that may all be guessed. Of the later ones every second halves.
+const GUESSED: u32 = 4;
+
+// A folding leaves some of its outline empty: about one part in so many of what its components take.
+const SPARE: u64 = 8;
+
+// Behind a layout that is too wide the guess goes up by one row in so many, lest the next be too wide by little.
+const RISE: u32 = 128;
+
+// A stack without a fold: its widest component, its height, and the rows times slices of all its components.
+struct Flat {
+    widest: Slices,
+    height: Rows,
+    area: u64,
+}
 
 // Refusals 7 and 8 of a fold call, with buffers of these lengths lent.
 fn check_lent(n: usize, limit: u32, out: usize, work: usize) -> Counted
@@ -62,26 +87,117 @@ fn write_best(
     Measured::Outlined(o)
 }
 
-// The least height for which the best layout is at most so many slices wide, by halving below one for which it is.
+fn long(x: u32) -> u64
+    ensures { λ r. ⌜ (r ≡ x) × (r < 4294967296) ⌝ }
+{
+    x as u64
+}
+
+fn product(a: u32, b: u32) -> u64
+    ensures { λ r. ⌜ r ≡ a * b ⌝ }
+{
+    long(a) * long(b)
+}
+
+fn flat_of(h: &[u16], w: &[u16], g: &[u16]) -> Flat
+    requires { ⌜ StackLists Apart (now h) (now w) (now g) × (0 < length (now h)) ⌝ }
+    ensures { λ r. ⌜ Unfolded (componentsIn (now (h .entry)) (now (w .entry)) (now (g .entry))) r ⌝ }
+{
+    let n = h.len();
+    let mut widest = 0;
+    let mut tall = 0;
+    let mut area = 0;
+    let mut k = 0;
+    while k < n {
+        let high = get(h, k);
+        let wide = get(w, k);
+        widest = larger(widest, wide);
+        tall += high;
+        area += product(high, wide);
+        k += 1;
+    }
+    Flat {
+        widest: Slices(widest),
+        height: Rows(tall + get(g, n - 1)),
+        area,
+    }
+}
+
+// The height to try first: the components' area at the width asked, and what stays empty.
+fn first_guess(area: u64, most: Slices) -> u64
+    requires { ⌜ (area ≤ mostArea) × (0 < most .0) ⌝ }
+{
+    let rows = area / long(most.0);
+    rows + rows / SPARE
+}
+
+// The height at which an outline as wide as asked has the same area.
+fn in_proportion(height: Rows, width: Slices, most: Slices) -> u64
+    requires { ⌜ 0 < most .0 ⌝ }
+{
+    product(height.0, width.0) / long(most.0)
+}
+
+// The height to try after a plan: width times height changes little from outline to outline. No answer rests on it.
+fn next_guess(most: Slices, tried: Rows, o: Outline) -> u64
+    requires { ⌜ (0 < most .0) × (tried .0 ≤ mostLimit) ⌝ }
+{
+    if o.width.0 <= most.0 {
+        return in_proportion(o.height, o.width, most);
+    }
+    if o.width.0 < NONE {
+        return in_proportion(Rows(tried.0 + tried.0 / RISE), o.width, most);
+    }
+    2 * long(tried.0)
+}
+
+// The next height to plan, from lo to below hi: as guessed, or the nearest. Where guesses go astray halving ends the search
+// in about twice as many plans as it needs by itself.
+fn pick(lo: u32, hi: u32, guess: u64, plans: u32) -> u32
+    requires { ⌜ (lo < hi) × (hi ≤ mostLimit) ⌝ }
+    ensures { λ r. ⌜ (lo ≤ r) × (r < hi) ⌝ }
+{
+    if GUESSED <= plans {
+        if plans % 2 == 0 {
+            return lo + (hi - lo) / 2;
+        }
+    }
+    if guess <= long(lo) {
+        return lo;
+    }
+    if long(hi) <= guess {
+        return hi - 1;
+    }
+    guess as u32
+}
+
+// The least height for which the best layout is at most so many slices wide, from one down for which it is. A layout that
+// is narrow enough is so within its own height, and that may be far below the height it was planned for.
 fn least_height(
     kind: Kind,
     most: Slices,
     top: Rows,
+    first: u64,
     h: &[u16],
     w: &[u16],
     g: &[u16],
     work: &mut [u32],
 ) -> Rows
-    requires { ⌜ HalvingAsks kind (now h) (now w) (now g) (now work) (most .0) (top .0) ⌝ }
+    requires { ⌜ LeastAsks kind (now h) (now w) (now g) (now work) (most .0) (top .0) ⌝ }
     ensures { λ r. ⌜ LeastFor kind (componentsIn (now (h .entry)) (now (w .entry)) (now (g .entry))) (most .0) (r .0) ⌝ }
 {
     let mut lo = 1;
     let mut hi = top.0;
+    let mut guess = first;
+    let mut plans = 0;
     while lo < hi {
-        let mid = lo + (hi - lo) / 2;
+        let mid = pick(lo, hi, guess, plans);
         let o = plan::outline_at(kind, Rows(mid), h, w, g, work);
+        guess = next_guess(most, Rows(mid), o);
+        plans += 1;
+        let own = o.height.0;
         if o.width.0 <= most.0 {
-            hi = mid;
+            hi = own;
         } else {
             lo = mid + 1;
         }
@@ -89,8 +205,8 @@ fn least_height(
     Rows(lo)
 }
 
-// The lowest folding within a width, and of those the narrowest. No folding is as high as the greatest limit, so a width
-// that cannot be had there cannot be had.
+// The lowest folding within a width, and of those the narrowest. No folding is narrower than the widest component, and
+// without a fold the stack is no wider, so it takes no plan to see that there is none.
 fn write_slim(
     kind: Kind,
     most: Slices,
@@ -105,11 +221,12 @@ fn write_slim(
         (componentsIn (now (h .entry)) (now (w .entry)) (now (g .entry))) (most .0)
         (now (out .entry)) (now (out .exit)) (measuredAnswer r) ⌝ }
 {
-    let o = plan::outline_at(kind, Rows(MOST_LIMIT), h, w, g, work);
-    if most.0 < o.width.0 {
+    let flat = flat_of(h, w, g);
+    if most.0 < flat.widest.0 {
         return Measured::Refused(Refusal::Unmeetable);
     }
-    let limit = least_height(kind, most, o.height, h, w, g, work);
+    let top = flat.height;
+    let limit = least_height(kind, most, top, first_guess(flat.area, most), h, w, g, work);
     write_best(kind, limit, h, w, g, out, work)
 }
 

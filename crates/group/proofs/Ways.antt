@@ -169,8 +169,9 @@ unfolding mayStand
 stands-allowed Apart cs p s = eq-eqb p (length cs) (apart-whole (length cs) p s)
 stands-allowed Nested cs p s = refl
 
--- Some way to every group: without a fold.
+-- So every group may stand without a fold, and some way is allowed to it.
+pub flat-allowed : (kind : Kind) (cs : List Component) → 0 < length cs → mayStand kind cs (length cs) ≡ true
+flat-allowed kind cs s = stands-allowed kind cs (length cs) (record { some = s; within = omega arith; folded = λ h. absurd (omega arith) })
+
 pub some-way : (kind : Kind) (cs : List Component) → 0 < length cs → SomeWay (mayStand kind) cs
-some-way kind cs s =
-    allowed-some (mayStand kind) cs (length cs)
-    (s, omega arith, stands-allowed kind cs (length cs) (record { some = s; within = omega arith; folded = λ h. absurd (omega arith) }))
+some-way kind cs s = allowed-some (mayStand kind) cs (length cs) (s, omega arith, flat-allowed kind cs s)

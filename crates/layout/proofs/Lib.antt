@@ -5,5 +5,6 @@ pub mod Foldings
 pub mod Best
 pub mod Table
 pub mod Widths
+pub mod Widest
 pub mod Prune
 pub mod Columns

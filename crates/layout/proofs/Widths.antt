@@ -5,15 +5,15 @@ use mathlib.Core.Logic.{_⊎_, inl, inr}
 use mathlib.Core.List.{List, [], _∷_}
 use mathlib.Core.Bool.{Bool, true, false, cond}
 use native.Mathlib.Omega.{arith}
-use lib.ListN.{take}
+use lib.ListN.{length, take}
 use Rattle.terms.specs.declared.Component.{Component}
 use Rattle.terms.specs.declared.Kind.{Kind}
 use Rattle.terms.specs.declared.Kind.the-variants.{Apart, Nested}
 use Rattle.group.specs.Rows.{tall}
 use Rattle.model.specs.Groups.{isEnd}
 use Rattle.group.specs.Group.{none, widest, flatHeight, May, waysOf, leastHeightBy, leastCap, leastWidthBy}
-use Rattle.group.proofs.Ways.{Suits, SomeWay, width-is}
-use Rattle.group.proofs.Falls.{two-sides, one-side, apart-height}
+use Rattle.group.proofs.Ways.{Allowed, Suits, SomeWay, way-flat, allowed-some, width-is, least-at}
+use Rattle.group.proofs.Falls.{two-sides, one-side, apart-point, apart-height}
 use Rattle.group.proofs.First.{Found, first-here, first-found, first-none}
 
 -- The least width of a group: there is none, or it lies between the widest and twice the widest and keeps the limit.
@@ -65,10 +65,21 @@ pub too-tall-more : (kind : Kind) (limit : ℕ) (cs : List Component) (k j : ℕ
 too-tall-more Apart limit cs k j h t = omega (arith, tall-take cs k j h)
 too-tall-more Nested limit cs k j h t = omega (arith, tall-take cs k j h)
 
+-- A group that keeps the limit without a fold is as narrow as its widest, where that way is allowed.
+module _ (may : May) (g0 : ℕ) (cs : List Component) (limit : ℕ) (some : 0 < length cs) (flat : may cs (length cs) ≡ true) where
+  whole : Allowed (may cs) (length cs) (length cs)
+  whole = (some, omega arith, flat)
+
+  pub flat-met : flatHeight g0 cs ≤ limit → leastWidthBy may g0 cs limit ≡ widest cs
+  flat-met h =
+      width-is may cs g0 limit (allowed-some may cs (length cs) whole)
+      ∙ first-here (leastHeightBy may g0 cs) limit (widest cs) (widest cs)
+      (omega (arith, least-at may cs g0 (widest cs) (length cs) whole, way-flat g0 cs (widest cs) (length cs) refl))
+
 -- Without a fold the cap does not matter.
 module _ (may : May) (suits : Suits Apart may) (g0 : ℕ) (cs : List Component) (limit : ℕ) (some : SomeWay may cs) where
   pub apart-met : flatHeight g0 cs ≤ limit → leastWidthBy may g0 cs limit ≡ widest cs
-  apart-met h = width-is may cs g0 limit some ∙ first-here (leastHeightBy may g0 cs) limit (widest cs) (widest cs) (omega (arith, apart-height may g0 cs (widest cs) some suits))
+  apart-met h = let p = apart-point may g0 cs (widest cs) some suits in flat-met may g0 cs limit (p .some) (p .allowed) h
 
   pub apart-unmet : limit < flatHeight g0 cs → leastWidthBy may g0 cs limit ≡ none
   apart-unmet h = width-is may cs g0 limit some ∙ first-none (leastHeightBy may g0 cs) limit (widest cs) (suc (widest cs)) (λ k l u. omega (arith, apart-height may g0 cs k some suits))

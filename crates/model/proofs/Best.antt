@@ -13,7 +13,7 @@ use Rattle.model.specs.Outlines.{outlineBy}
 use Rattle.model.specs.Search.{Search}
 use Rattle.model.proofs.Choice.{no-wider}
 
--- Nothing one below the height `lim` is within the width w. That is what halving keeps of its lower bound.
+-- Nothing one below the height `lim` is within the width w. That is what a search keeps of its lower bound.
 abbrev pub Below : (ℕ → Layout) → ℕ → ℕ → Type 0
 Below best w lim = (k : ℕ) → lim ≡ k + 1 → w < best k .width
 
@@ -69,6 +69,10 @@ module _ {F : Type 0} {Legal : F → Type 0} {outlineOf : F → Outline} {best :
         go h (inr u) = inl u
         go (inr h) (inl u) = absurd (omega (arith, kept))
         go (inl h) (inl u) = as-high (others-wider lim other l h) u
+
+    -- The height of a layout within the width is no lower, so that a search may go down to it.
+    pub no-lower : (mid : ℕ) → best mid .width < none → best mid .width ≤ w → lim ≤ best mid .height
+    no-lower mid m h = let r = s .some mid m in rw (r .2) at (not-below (r .0) (r .1) (rw (r .2) h))
 
   pub unmeetable-width : (w : ℕ) → w < best mostLimit .width → (f : F) → Legal f → outlineOf f .width .0 ≤ w → ⊥
   unmeetable-width w n f l k =

@@ -5,6 +5,7 @@ pub mod Candidates
 pub mod First
 pub mod Layouts
 pub mod Falling
+pub mod Widths
 pub mod Transfer
 pub mod Best
 pub mod Table

@@ -1,6 +1,7 @@
 use Rattle.plan.proofs.Outlines.{plan-asks}
 use Rattle.fold.proofs.Planning.{unmet, trace-asks, written}
 use mathlib.Core.Path.{refl}
+use native.Mathlib.Omega.{arith}
 use borrow.Author.Needs.{needs}
 use Rattle.fold.proofs.write_best.Statement.{statement}
 use Rattle.fold.proofs.write_best.Tie as tie
@@ -21,7 +22,7 @@ same-length : tie.Need-same-length
 same-length c = search needs
 
 returns : tie.Need-returns
-returns c = (refl, unmet (c .before .before .before .before .before .before .before .before .before .before .before .before .before .before .before .before .before .pre .0) (c .before .before .before .before .before .before .before .plan .ensures) (c .if1 .taken), refl)
+returns c = (refl, unmet (c .before .before .before .before .before .before .before .before .before .before .before .before .before .before .before .before .before .pre .0) (c .before .before .before .before .before .before .before .plan .ensures) (omega (arith, c .if1 .taken)), refl)
 
 slice-aggregate-trace : tie.Need-slice-aggregate-trace
 slice-aggregate-trace c = search needs
