@@ -18,8 +18,9 @@ fn asked(call: &str, shape: Shape) -> (Option<f64>, Option<f64>) {
     }
 }
 
-/// How much slower than before a call may seem: two runs of one library differ by as much.
-const NOISE: f64 = 0.1;
+/// How much slower than before a call may seem: medians of two runs of one and the same library differed by up to 15 in
+/// a hundred on these stacks. So less than this is told as such, and not as slower.
+const NOISE: f64 = 0.2;
 
 pub fn print(nested: &[Row], apart: &[Row], before: &[Row]) {
     println!("\nAgainst the targets: the longest nested stacks, medians next to document 001's method\n");
@@ -62,7 +63,7 @@ fn print_apart(apart: &[Row], before: &[Row]) {
         let medians = (0..CALLS.len()).map(|call| times(Row::library, call));
         let met = match medians.fold(f64::INFINITY, f64::min) {
             least if least >= 1.0 => "yes",
-            least if least >= 1.0 - NOISE => "to within a tenth",
+            least if least >= 1.0 - NOISE => "to within a fifth",
             _ => "no",
         };
         let cells = (0..CALLS.len()).flat_map(|call| [Row::library, Row::worst].map(|of| ratio(times(of, call))));
