@@ -17,11 +17,11 @@ impl Library<'_> {
         Library { file: &stack.file, nested, placements, pairs: vec![0; 1 << 16], work: vec![0; raw::WORK] }
     }
 
-    pub fn to_height(&mut self, limit: u32) -> Option<Outline> {
+    pub fn fold_to_height(&mut self, limit: u32) -> Option<Outline> {
         found(raw::to_height(self.file, self.nested, limit, &mut self.placements, &mut self.work))
     }
 
-    pub fn to_width(&mut self, limit: u32) -> Option<Outline> {
+    pub fn fold_to_width(&mut self, limit: u32) -> Option<Outline> {
         found(raw::to_width(self.file, self.nested, limit, &mut self.placements, &mut self.work))
     }
 

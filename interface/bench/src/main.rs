@@ -1,41 +1,74 @@
 //! Times both folds and the table, next to document 001's own method on the same stacks, and both folds over a sweep of
 //! limits; checks that all find the same outlines. Prints the tables of docs/PERFORMANCE.md, and as each row is done a
-//! line to standard error. Argument: where to write the plot.
+//! line to standard error. Arguments, each with a file behind it: --picture, where to write the plot; --before, the
+//! figures of an earlier run to show beside these; --keep, where to write the figures of this one.
 
 mod clock;
+mod figures;
+mod growth;
 mod library;
+mod panels;
 mod paper;
 mod plot;
 mod report;
 #[allow(dead_code)] // the comparison draws in more ways
 #[path = "../../compare/src/rng.rs"]
 mod rng;
+mod row;
+#[path = "../../compare/src/shapes.rs"]
+mod shapes;
 mod stacks;
+mod targets;
 mod timing;
 
-use report::Row;
 use rng::Rng;
-use stacks::{stack, Shape, SHAPES};
-use timing::{time_stack, Timed, CALLS};
+use row::{Row, KINDS};
+use shapes::{Shape, SHAPES};
+use stacks::stack;
+use std::{env, fs};
+use timing::{time_stack, Timed};
 
 /// Stacks for each shape and length; fewer where those before took longer than so many seconds.
 const STACKS: usize = 7;
 const CELL: f64 = 12.0;
 
 fn main() {
+    // Read first: a file that cannot be read should not cost a whole run.
+    let before = named("--before").map(|path| figures::rows(&fs::read_to_string(path).expect("the figures are read")));
+    let before = before.unwrap_or_default();
     let nested = rows(true, &[8, 16, 32, 48, 64]);
     let apart = rows(false, &[16, 64, 128, 256]);
-    report::print_dearest(&[&nested, &apart]);
-    report::print_times(&nested);
-    report::print_times(&apart);
-    if let Some(path) = std::env::args().nth(1) {
-        let panels: Vec<_> = (0..CALLS.len()).map(|call| report::panel(call, &nested, &apart)).collect();
-        std::fs::write(path, plot::svg(&panels, &report::CAPTION)).expect("the plot is written");
+    if let Some(path) = named("--keep") {
+        fs::write(path, figures::text(nested.iter().chain(&apart))).expect("the figures are written");
+    }
+    print(&nested, &apart, &before);
+    if let Some(path) = named("--picture") {
+        let panels: Vec<_> = [&nested, &apart].into_iter().flat_map(|rows| panels::panels(rows, &before)).collect();
+        fs::write(path, plot::svg(&panels, &panels::CAPTION)).expect("the plot is written");
     }
 }
 
+/// The word behind an argument.
+fn named(argument: &str) -> Option<String> {
+    env::args().skip_while(|word| word != argument).nth(1)
+}
+
+fn print(nested: &[Row], apart: &[Row], before: &[Row]) {
+    targets::print(nested, apart, before);
+    report::print_dearest(&[nested, apart]);
+    growth::print("the library", &[nested, apart]);
+    if !before.is_empty() {
+        let kinds = KINDS.map(|kind| before.iter().filter(|row| row.kind == kind).cloned().collect::<Vec<Row>>());
+        growth::print("the library before", &kinds.each_ref().map(|rows| &rows[..]));
+        report::print_change(nested, before);
+        report::print_change(apart, before);
+    }
+    report::print_times(nested);
+    report::print_times(apart);
+}
+
 fn rows(nested: bool, counts: &[usize]) -> Vec<Row> {
-    let kind = if nested { "nested" } else { "apart" };
+    let kind = KINDS[usize::from(!nested)];
     let mut rows = Vec::new();
     for &count in counts {
         for (i, (shape, name)) in SHAPES.into_iter().enumerate() {
@@ -45,7 +78,7 @@ fn rows(nested: bool, counts: &[usize]) -> Vec<Row> {
             let timed = cell(&mut rng, nested, count, shape);
             let (stacks, seconds) = (timed.len(), clock::seconds() - start);
             eprintln!("{kind}, {count} components, {name}: {seconds:.1} s for {stacks} of {STACKS} stacks");
-            rows.push(Row { kind, count, shape: name, timed });
+            rows.push(Row { kind, count, shape, timed });
         }
     }
     rows

@@ -32,7 +32,7 @@ impl Paper {
     }
 
     /// The narrowest layout that keeps the height, and of those the lowest: equation (5).
-    pub fn to_height(&mut self, limit: u32) -> Option<Outline> {
+    pub fn fold_to_height(&mut self, limit: u32) -> Option<Outline> {
         let n = self.heights.len();
         let mut best = vec![(NONE, NONE); n];
         best.push((0, 0));
@@ -55,25 +55,25 @@ impl Paper {
     }
 
     /// The lowest layout that keeps the width. Heights are halved over all numbers: section 4.1.2's candidates miss some.
-    pub fn to_width(&mut self, limit: u32) -> Option<Outline> {
+    pub fn fold_to_width(&mut self, limit: u32) -> Option<Outline> {
         let keeps = |o: &Outline| o.width.0 <= limit;
         let (mut low, mut high) = (1, self.total(0, self.heights.len()));
-        self.to_height(high).filter(keeps)?;
+        self.fold_to_height(high).filter(keeps)?;
         while low < high {
             let middle = (low + high) / 2;
-            match self.to_height(middle).filter(keeps) {
+            match self.fold_to_height(middle).filter(keeps) {
                 Some(_) => high = middle,
                 None => low = middle + 1,
             }
         }
-        self.to_height(high)
+        self.fold_to_height(high)
     }
 
     /// All unbeaten outlines: fold to height, each time one below the height just found.
     pub fn table(&mut self) -> Vec<Outline> {
         let mut table = Vec::new();
         let mut limit = self.total(0, self.heights.len());
-        while let Some(outline) = self.to_height(limit) {
+        while let Some(outline) = self.fold_to_height(limit) {
             table.push(outline);
             limit = outline.height.0 - 1;
         }

@@ -1,28 +1,14 @@
-//! Stacks of several shapes.
+//! The stacks that are timed.
 
 use crate::rng::Rng;
+use crate::shapes::{sizes, Shape, SHAPES};
 use stack_folds::{write, Component, Rows, Slices};
 
-#[derive(Clone, Copy, PartialEq)]
-pub enum Shape {
-    Random,
-    EqualHeights,
-    EqualWidths,
-    /// Narrow and wide ones: a wide one fits beside a narrow one and clashes with every other.
-    Clashes,
-    Gaps,
-    /// Widths rise to the middle of the stack and fall again, with a little noise: among the dearest stacks known.
-    SmoothWidths,
+impl Shape {
+    pub fn name(self) -> &'static str {
+        SHAPES.into_iter().find(|(shape, _)| *shape == self).expect("every shape has a name").1
+    }
 }
-
-pub const SHAPES: [(Shape, &str); 6] = [
-    (Shape::Random, "random"),
-    (Shape::EqualHeights, "equal heights"),
-    (Shape::EqualWidths, "equal widths"),
-    (Shape::Clashes, "many clashes"),
-    (Shape::Gaps, "gaps"),
-    (Shape::SmoothWidths, "smooth widths"),
-];
 
 pub struct Stack {
     pub components: Vec<Component>,
@@ -30,27 +16,9 @@ pub struct Stack {
 }
 
 pub fn stack(rng: &mut Rng, count: usize, shape: Shape) -> Stack {
-    let last = count - 1;
-    let depth = |i: usize| 2.0 * i.min(last - i) as f64 / last as f64;
-    let mut components: Vec<Component> = (0..count).map(|i| component(rng, shape, depth(i))).collect();
-    components[last].gap = Rows(0);
+    let component =
+        |[height, width, gap]: [u32; 3]| Component { height: Rows(height), width: Slices(width), gap: Rows(gap) };
+    let components: Vec<Component> = sizes(rng, count, shape).into_iter().map(component).collect();
     let file = write(&components).expect("the numbers are in range");
     Stack { components, file }
-}
-
-/// The depth says how far from the nearer end of the stack it stands: 0 at an end, 1 in the middle.
-fn component(rng: &mut Rng, shape: Shape, depth: f64) -> Component {
-    let height = match shape {
-        Shape::EqualHeights => 1000,
-        Shape::SmoothWidths => rng.within(2000, 4000),
-        _ => rng.within(1, 4000),
-    };
-    let width = match shape {
-        Shape::EqualWidths => 1000,
-        Shape::Clashes => rng.within(1, 400) + if rng.one_in(2) { 3600 } else { 0 },
-        Shape::SmoothWidths => 300 + (3600.0 * depth * depth) as u32 + rng.within(0, 100),
-        _ => rng.within(1, 4000),
-    };
-    let gap = if shape == Shape::Gaps { rng.within(0, 1000) } else { 0 };
-    Component { height: Rows(height), width: Slices(width), gap: Rows(gap) }
 }

@@ -18,6 +18,7 @@ const LIMITS: u32 = 20;
 const SHORT: f64 = 0.002;
 
 /// The seconds of one call on one stack.
+#[derive(Clone)]
 pub struct Cost {
     pub library: f64,
     pub paper: f64,
@@ -25,6 +26,7 @@ pub struct Cost {
     pub worst: f64,
 }
 
+#[derive(Clone)]
 pub struct Timed {
     /// In the order of the calls.
     pub costs: [Cost; 3],
@@ -42,15 +44,15 @@ pub fn time_stack(stack: &Stack, nested: bool) -> Timed {
     let (height_cost, height) = time_fold(
         middle.height.0,
         &spaced(lowest.height.0, narrowest.height.0),
-        |limit| library.to_height(limit),
-        |limit| paper.to_height(limit),
+        |limit| library.fold_to_height(limit),
+        |limit| paper.fold_to_height(limit),
         |limit| within_height(&table, limit),
     );
     let (width_cost, width) = time_fold(
         middle.width.0,
         &widths(&table),
-        |limit| library.to_width(limit),
-        |limit| paper.to_width(limit),
+        |limit| library.fold_to_width(limit),
+        |limit| paper.fold_to_width(limit),
         |limit| table.iter().rfind(|line| line.width.0 <= limit).copied(),
     );
     let dearest = [f64::from(height) / f64::from(narrowest.height.0), f64::from(width) / f64::from(narrowest.width.0)];

@@ -9,10 +9,12 @@ mod measure;
 mod rng;
 mod rows;
 mod rules;
+mod shapes;
 mod stack;
 mod stacks;
 
-use calls::{Caller, Compared};
+use calls::{same, Caller, Compared};
+use rng::Rng;
 use stack::{random, Component, SHAPES};
 use std::{env, process::ExitCode, time::Instant};
 
@@ -20,6 +22,14 @@ const ENUMERATED: usize = 4_000;
 const SEARCHED: usize = 18_000;
 const SCALED: usize = 3_000;
 const LONG: usize = 60;
+const LONGEST: usize = 28;
+/// Lines of a table that the folds are held to, where tables are long.
+const LINES: usize = 12;
+/// Outlines that the work buffer holds, nested behind what else it holds there.
+const NESTED_WAIT: usize = (rules::WORK - 6305) / 2;
+const APART_WAIT: usize = rules::WORK / 2;
+/// Outlines of the longest table here.
+const MOST_LINES: usize = 7_719;
 const DAMAGED: usize = 300_000;
 
 fn main() -> ExitCode {
@@ -59,6 +69,10 @@ fn all(caller: &mut Caller) -> Compared<()> {
     part(&format!("{SCALED} stacks of 1 to 8 components, scaled up to 4,000"), caller);
     let lines = long(caller)?;
     part(&format!("{LONG} stacks of 13 to 256 components, {lines} outlines against both folds"), caller);
+    let lines = longest(caller)?;
+    part(&format!("{LONGEST} nested stacks of 48 to 64 components, {lines} outlines against both folds"), caller);
+    many_lines(caller)?;
+    part(&format!("tables of {NESTED_WAIT} and more outlines nested, {APART_WAIT} to {MOST_LINES} apart"), caller);
     for (number, count) in caller.answers.iter().enumerate() {
         println!("  {count:>9} times {}", if number == 0 { "a result".into() } else { format!("refusal {number}") });
     }
@@ -121,18 +135,56 @@ fn long(caller: &mut Caller) -> Compared<usize> {
     let mut lines = 0;
     for at in 0..LONG {
         let nested = at % 2 == 0;
-        // The longest nested stack takes seconds, so there is one.
-        let most = match nested {
-            true if at == 0 => 64,
-            true => 32,
-            false => 256,
-        };
+        let most = if nested { 47 } else { 256 };
         let count = if at < 2 { most } else { caller.rng.within(13, most) } as usize;
         let small = random(&mut caller.rng, count, SHAPES[at / 2 % SHAPES.len()]);
         let stack = if at % 4 < 2 { noisy(caller, count) } else { small };
-        lines += stacks::with_itself(caller, &stack, nested).map_err(told(&stack, nested))?;
+        lines +=
+            stacks::with_itself(caller, &stack, nested, stacks::ROOM, stacks::LINES).map_err(told(&stack, nested))?;
     }
     Ok(lines)
+}
+
+/// The longest nested stacks, of all shapes, half of them with large numbers, at more lines.
+fn longest(caller: &mut Caller) -> Compared<usize> {
+    let mut lines = 0;
+    for at in 0..LONGEST {
+        let count = if at < 2 { 64 } else { caller.rng.within(48, 64) } as usize;
+        let rng = &mut caller.rng;
+        let stack = match at % 2 {
+            0 => stack::large(rng, count, shapes::SHAPES[at / 2 % shapes::SHAPES.len()].0),
+            _ => random(rng, count, SHAPES[at / 2 % SHAPES.len()]),
+        };
+        lines += stacks::with_itself(caller, &stack, true, stacks::ROOM, LINES).map_err(told(&stack, true))?;
+    }
+    Ok(lines)
+}
+
+/// Tables with more outlines than wait in the work buffer before they are copied: as many as just wait, one more, and for
+/// apart stacks many more. The numbers were counted outside the library. Nested ones of this length are dear, so each is
+/// listed once, in a buffer that it fills or in a longer one, and refused once.
+fn many_lines(caller: &mut Caller) -> Compared<()> {
+    let nested = |seed: u64| stack::nested_ladder(&mut Rng(seed), 33, 27);
+    let apart = |coarse: u32, fine: u32, second: u32| stack::apart_ladder(&mut Rng(1), coarse, fine, second);
+    let stacks = [
+        (true, nested(7), NESTED_WAIT, 0),
+        (true, nested(108), NESTED_WAIT + 1, 3),
+        (false, apart(35, 57, 56), APART_WAIT, 0),
+        (false, apart(31, 64, 63), APART_WAIT + 1, 0),
+        (false, apart(31, 64, 63), APART_WAIT + 1, 3),
+        (false, apart(61, 62, 62), MOST_LINES, 2),
+    ];
+    for (nested, stack, count, spare) in stacks {
+        full(caller, &stack, nested, count, spare).map_err(told(&stack, nested))?;
+    }
+    Ok(())
+}
+
+/// A table of so many outlines in a buffer with so many numbers to spare, and in one that is too short.
+fn full(caller: &mut Caller, stack: &[Component], nested: bool, count: usize, spare: usize) -> Compared<()> {
+    let found = stacks::with_itself(caller, stack, nested, 2 * count + spare, LINES)?;
+    same("the number of outlines", found, count)?;
+    stacks::short(caller, stack, nested, 2 * count)
 }
 
 /// Heights, widths and gaps over their whole ranges.

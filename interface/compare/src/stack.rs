@@ -1,6 +1,7 @@
 //! Stacks, their files, and random ones of several shapes.
 
 use crate::rng::Rng;
+use crate::shapes;
 
 #[derive(Clone, Copy, Debug, PartialEq, Eq)]
 pub struct Component {
@@ -19,6 +20,10 @@ pub fn file(stack: &[Component]) -> Vec<u8> {
         }
     }
     file
+}
+
+fn of_size([height, width, gap]: [u32; 3]) -> Component {
+    Component { height, width, gap }
 }
 
 pub fn total(stack: &[Component]) -> u32 {
@@ -72,4 +77,34 @@ fn one(rng: &mut Rng, shape: Shape, height: u32, width: u32) -> Component {
 pub fn scaled(stack: &[Component], rows: u32, slices: u32) -> Vec<Component> {
     let scale = |c: &Component| Component { height: c.height * rows, width: c.width * slices, gap: c.gap * rows };
     stack.iter().map(scale).collect()
+}
+
+/// Numbers over the whole ranges.
+pub fn large(rng: &mut Rng, count: usize, shape: shapes::Shape) -> Vec<Component> {
+    shapes::sizes(rng, count, shape).into_iter().map(of_size).collect()
+}
+
+/// A nested stack with about a line for each two numbers up to `coarse` and `fine`: a wide and high component between two
+/// runs that widen toward it. The table's narrowest layouts turn some of the coarse run over and cut off some of the fine
+/// one; one more of the coarse run saves more rows, and takes more slices, than all of the fine one. Two coarse ones are
+/// wider than the wide one, so the coarse run does not fold over itself for nothing.
+pub fn nested_ladder(rng: &mut Rng, coarse: u32, fine: u32) -> Vec<Component> {
+    let step = 3968 / coarse;
+    let mut sizes: Vec<[u32; 3]> =
+        (1..=coarse).map(|i| [step - rng.within(0, 2), 2000 + step / 2 * i - rng.within(0, 2), 0]).collect();
+    sizes.push([4000, 4000, 0]);
+    sizes.extend((1..=fine).rev().map(|i| [rng.within(1, 2), 2 * i - rng.within(0, 1), 0]));
+    sizes.into_iter().map(of_size).collect()
+}
+
+/// An apart one, which cuts off both runs. A second fine run stands inside the first, parted from it by a component that is
+/// about as wide and high as the whole coarse run: so its lines begin where those of the first end.
+pub fn apart_ladder(rng: &mut Rng, coarse: u32, fine: u32, second: u32) -> Vec<Component> {
+    let step = 3968 / coarse;
+    let mut sizes: Vec<[u32; 3]> = (1..=coarse).map(|i| [step - rng.within(0, 1), step * i, 0]).collect();
+    sizes.push([4000, 4000, 0]);
+    sizes.extend((1..=second).rev().map(|i| [1, 3999 - fine + i, 0]));
+    sizes.push([3968 - 2 * fine, 3999 - fine, 0]);
+    sizes.extend((1..=fine).rev().map(|i| [1, i, 0]));
+    sizes.into_iter().map(of_size).collect()
 }

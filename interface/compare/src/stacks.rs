@@ -3,11 +3,14 @@
 use crate::calls::{same, Caller, Compared, FoldCall};
 use crate::front::{best, Toward};
 use crate::measure::Outline;
-use crate::rules::{Answer, LAST_LIMIT, WORK};
+use crate::rules::{LAST_LIMIT, WORK};
 use crate::stack::{file, Component};
 
-/// Lines of the table whose neighbours are tried.
-const LINES: usize = 3;
+/// Lines of a table that the folds are held to, where stacks are many.
+pub const LINES: usize = 3;
+
+/// Numbers that hold every table of a stack here.
+pub const ROOM: usize = 1 << 15;
 
 /// Reading, looking up and writing a stack's file.
 pub fn files(caller: &mut Caller, stack: &[Component]) -> Compared<()> {
@@ -26,49 +29,78 @@ pub fn against(caller: &mut Caller, stack: &[Component], nested: bool, own: &[Ou
     let spare = caller.rng.below(4);
     let listed = caller.table(&bytes, nested, 2 * own.len() + spare, WORK + spare)?;
     same("the table", listed, Ok(own.to_vec()))?;
-    let short = caller.table(&bytes, nested, 2 * own.len() - 1, WORK)?;
-    same("a table with room for one line less", short, Err(8))?;
-    folds(caller, &bytes, stack.len(), nested, own)
+    short(caller, stack, nested, 2 * own.len())?;
+    Listed { bytes: &bytes, n: stack.len(), nested, table: own }.folds(caller, LINES)
 }
 
-/// The same for stacks with no own table: the library's table must agree with its own folds.
-pub fn with_itself(caller: &mut Caller, stack: &[Component], nested: bool) -> Compared<usize> {
+/// The same for stacks with no own table: the library's table, in a buffer of so many numbers, must agree with its own
+/// folds at so many lines. Gives the number of its outlines.
+pub fn with_itself(
+    caller: &mut Caller, stack: &[Component], nested: bool, room: usize, lines: usize,
+) -> Compared<usize> {
     let bytes = file(stack);
-    let table = match caller.table(&bytes, nested, 1 << 14, WORK)? {
+    let table = match caller.table(&bytes, nested, room, WORK)? {
         Ok(table) => table,
         Err(number) => return Err(format!("a valid stack's table is refused with {number}")),
     };
-    folds(caller, &bytes, stack.len(), nested, &table)?;
+    Listed { bytes: &bytes, n: stack.len(), nested, table: &table }.folds(caller, lines)?;
     Ok(table.len())
 }
 
-/// At a line's limits that line is the answer; one below them it is the line beside it, or there is none.
-fn folds(caller: &mut Caller, bytes: &[u8], n: usize, nested: bool, table: &[Outline]) -> Compared<()> {
-    let first = caller.rng.below(table.len());
-    for at in (first..table.len()).chain(0..first).take(LINES) {
-        let line = table[at];
-        let neighbour = |other: Option<usize>| other.and_then(|i| table.get(i).copied()).ok_or(9);
-        ask(caller, bytes, n, nested, Toward::Height, line.height, Ok(line))?;
-        ask(caller, bytes, n, nested, Toward::Width, line.width, Ok(line))?;
-        let below = |limit: u32, other| if limit == 1 { Err(7) } else { other };
-        let lower = below(line.height, neighbour(Some(at + 1)));
-        ask(caller, bytes, n, nested, Toward::Height, line.height - 1, lower)?;
-        let narrower = below(line.width, neighbour(at.checked_sub(1)));
-        ask(caller, bytes, n, nested, Toward::Width, line.width - 1, narrower)?;
-    }
-    for toward in [Toward::Height, Toward::Width] {
-        let most = table[0].height.max(table[table.len() - 1].width) + 2;
-        for limit in [1, caller.rng.within(1, most), LAST_LIMIT] {
-            ask(caller, bytes, n, nested, toward, limit, best(table, toward, limit))?;
-        }
-    }
-    Ok(())
+/// A table that needs a buffer of so many numbers, in one that has room for one line less.
+pub fn short(caller: &mut Caller, stack: &[Component], nested: bool, full: usize) -> Compared<()> {
+    let less = 1 + caller.rng.below(2);
+    let short = caller.table(&file(stack), nested, full - less, WORK)?;
+    same("a table with room for one line less", short, Err(8))
 }
 
-fn ask(
-    caller: &mut Caller, bytes: &[u8], n: usize, nested: bool, toward: Toward, limit: u32, own: Answer<Outline>,
-) -> Compared<()> {
-    let (room, work) = (3 * n + caller.rng.below(5), WORK + caller.rng.below(3));
-    let answer = caller.fold(&FoldCall { file: bytes, nested, toward, limit, room, work })?;
-    same(&format!("fold to {toward:?} {limit}"), answer, own)
+/// A stack's file and all its unbeaten outlines of one kind, which say what each fold must answer.
+struct Listed<'a> {
+    bytes: &'a [u8],
+    n: usize,
+    nested: bool,
+    table: &'a [Outline],
+}
+
+impl Listed<'_> {
+    /// Both folds at some lines, spread evenly from a random one on; past the table's ends; and at any limits.
+    fn folds(&self, caller: &mut Caller, lines: usize) -> Compared<()> {
+        let (count, first) = (self.table.len(), caller.rng.below(self.table.len()));
+        let tried = lines.min(count);
+        (0..tried).try_for_each(|i| self.line(caller, (first + i * count / tried) % count))?;
+        let (narrowest, lowest) = (self.table[0], self.table[count - 1]);
+        self.ask(caller, Toward::Height, lowest.height - 1)?;
+        self.ask(caller, Toward::Width, narrowest.width - 1)?;
+        for toward in [Toward::Height, Toward::Width] {
+            let most = narrowest.height.max(lowest.width) + 2;
+            for limit in [1, caller.rng.within(1, most), LAST_LIMIT] {
+                self.ask(caller, toward, limit)?;
+            }
+        }
+        Ok(())
+    }
+
+    /// At a line's limits that line is the answer; between them and those of the line beside it, one of the two; one
+    /// below them, the line beside it, or there is none.
+    fn line(&self, caller: &mut Caller, at: usize) -> Compared<()> {
+        let (line, next) = (self.table[at], self.table.get(at + 1));
+        let lower = next.map_or(0, |next| next.height);
+        let height = caller.rng.within(lower, line.height - 1);
+        for limit in [line.height, line.height - 1, height] {
+            self.ask(caller, Toward::Height, limit)?;
+        }
+        let wider = next.map_or(line.width + 1, |next| next.width);
+        let width = caller.rng.within(line.width, wider - 1);
+        for limit in [line.width, line.width - 1, width] {
+            self.ask(caller, Toward::Width, limit)?;
+        }
+        Ok(())
+    }
+
+    fn ask(&self, caller: &mut Caller, toward: Toward, limit: u32) -> Compared<()> {
+        let (room, work) = (3 * self.n + caller.rng.below(5), WORK + caller.rng.below(3));
+        let call = FoldCall { file: self.bytes, nested: self.nested, toward, limit, room, work };
+        let answer = caller.fold(&call)?;
+        same(&format!("fold to {toward:?} {limit}"), answer, best(self.table, toward, limit))
+    }
 }
