@@ -1,6 +1,6 @@
 -- Which of two layouts is chosen.
 use Prim.Native.Nat.{ℕ, _≤_, _<_}
-use mathlib.Core.Path.{_≡_, refl, sym, _∙_}
+use mathlib.Core.Path.{_≡_, refl, sym, ap, _∙_}
 use mathlib.Core.Logic.{_⊎_, inl, inr}
 use mathlib.Core.Bool.{Bool, true, false, _&&_, true≢false}
 use native.Mathlib.Omega.{arith}
@@ -100,3 +100,25 @@ fair-choice a b f = no-worse-trans (choice a b) b none none (choice-no-worse-sec
 
 pub choice-unmet : (b : Layout) → Fair b → choice unmet b ≡ b
 choice-unmet b f = choice-keeps unmet b f
+
+-- What is chosen where nothing as wide as a bound is wanted: the same, or something that wide as well.
+abbrev pub Below : ℕ → Layout → Layout → Type 0
+Below bound s b = (b ≡ s) ⊎ ((bound < none) × (bound ≤ s .width) × (bound ≤ b .width))
+
+narrower-first : (a b : Layout) → a .width < b .width → choice a b ≡ a
+narrower-first a b h = choice-first a b (or-left _ (lt-ltb (a .width) (b .width) h))
+
+pub below-choice : (bound : ℕ) (a s b : Layout) → Below bound s b → Below bound (choice a s) (choice a b)
+below-choice bound a s b (inl e) = inl (ap (λ (z : Layout). choice a z) e)
+below-choice bound a s b (inr p) = go (order bound (a .width))
+  where
+    wide : (z : Layout) → bound ≤ a .width → bound ≤ z .width → bound ≤ choice a z .width
+    wide z h k = pick (either (better a z))
+      where
+        pick : (better a z ≡ true) ⊎ (better a z ≡ false) → bound ≤ choice a z .width
+        pick (inl e) = rw (choice-first a z e) h
+        pick (inr e) = rw (choice-second a z e) k
+
+    go : (bound ≤ a .width) ⊎ (a .width < bound) → Below bound (choice a s) (choice a b)
+    go (inl h) = inr (p .0, wide s h (p .1), wide b h (p .2))
+    go (inr h) = inl (narrower-first a b (omega (arith, p .2)) ∙ sym (narrower-first a s (omega (arith, p .1))))

@@ -5,3 +5,4 @@ pub mod Trying
 pub mod Scanning
 pub mod Planning
 pub mod Outlines
+pub mod Sizing

@@ -4,9 +4,9 @@ use Prim.Native.Nat.{ℕ, zero, suc, _*_, _≤_, _<_}
 use mathlib.Core.Path.{_≡_}
 use mathlib.Core.Logic.{_⊎_}
 use mathlib.Core.List.{List}
-use lib.ListN.{length, getD, drop}
+use lib.ListN.{length, getD, take, drop}
 use Rattle.numbers.specs.Table.{cells}
-use Rattle.terms.specs.Numbers.{mostSize, mostLimit, leastWork}
+use Rattle.terms.specs.Numbers.{mostSize, mostApart, mostLimit, leastWork}
 use Rattle.terms.specs.declared.Component.{Component}
 use Rattle.terms.specs.declared.Kind.{Kind}
 use Rattle.terms.specs.declared.Kind.the-variants.{Apart, Nested}
@@ -18,6 +18,7 @@ use Rattle.layout.specs.Layout.{Layout, unmet, candidate, choice, scan, layouts
 use Rattle.layout.specs.Table.{outline}
 use Rattle.layout.specs.Plan.{StackLists, PlannedAt, Planned}
 use Rattle.plan.specs.declared.Best.{Best}
+use Rattle.plan.specs.declared.Sizes.{Sizes}
 
 abbrev pub layoutIn : Best → Layout
 layoutIn b = record { width = b .width .0; height = b .height .0; end = b .end }
@@ -50,6 +51,18 @@ abbrev pub planRoom : Kind → ℕ
 planRoom Apart = 0
 planRoom Nested = cells
 
+-- The sizes of the first k components, whatever their gaps.
+pub record SizesAsk (hs ws : List ℕ) (k : ℕ) : Type 0 where
+  pub few : length hs ≤ mostApart
+  pub low : (i : ℕ) → getD hs i 0 ≤ mostSize
+  pub in-heights : k ≤ length hs
+  pub in-widths : k ≤ length ws
+
+pub record SizesOf (hs ws : List ℕ) (k : ℕ) (r : Sizes) : Type 0 where
+  pub tall-is : (gs : List ℕ) → r .tall .0 ≡ tall (take k (componentsIn hs ws gs))
+  pub widest-is : (gs : List ℕ) → r .widest .0 ≡ widest (take k (componentsIn hs ws gs))
+  pub low : r .tall .0 ≤ none
+
 -- A first group does not ask where the rest has its own groups.
 abbrev pub restAt : List ℕ → List ℕ → ℕ → Best
 restAt widths heights k = record { width = record { 0 = getD widths k 0 }; height = record { 0 = getD heights k 0 }; end = 0 }
@@ -68,6 +81,10 @@ pub record FirstAsks (kind : Kind) (limit g0 : ℕ) (hs ws gs widths heights es 
   pub heights-long : length hs ≤ length heights
   pub room : planRoom kind ≤ length es
   pub later : Later kind limit g0 (componentsIn hs ws gs) widths heights
+
+-- A width that the best layout stays under, if there is one.
+abbrev pub Under : Kind → ℕ → ℕ → List Component → ℕ → Type 0
+Under kind limit g0 cs bound = (bound ≤ none) × (bound < none → layoutOf kind limit g0 cs .width < bound)
 
 -- The best layout with at most k components in the first group.
 abbrev pub bestTo : Kind → ℕ → ℕ → List Component → ℕ → Layout

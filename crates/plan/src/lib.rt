@@ -8,7 +8,7 @@ ghost use Rattle.terms.specs.declared.Kind.the-variants.{Apart, Nested};
 ghost use Rattle.terms.specs.Component.{componentsIn};
 ghost use Rattle.group.specs.Group.{none};
 ghost use Rattle.layout.specs.Layout.{better, choice, unmet, layouts, layoutOf};
-ghost use Rattle.plan.specs.Asks.{layoutIn, GroupAsks, Packed, tried, mostRows, restAt, FirstAsks};
+ghost use Rattle.plan.specs.Asks.{layoutIn, GroupAsks, Packed, tried, mostRows, restAt, FirstAsks, Under, SizesAsk, SizesOf};
 ghost use Rattle.plan.specs.Asks.{FromAsks, PlanAsks, PlannedFrom, PlanDone, gapBefore, planRoom};
 ghost use Rattle.plan.specs.Asks.{Known, KnownTo, EntryAsks, Plannable, bestAt};
 use folding::Outline;
@@ -27,6 +27,12 @@ struct Best {
     width: Slices,
     height: Rows,
     end: u32,
+}
+
+// The rows of some components without empty rows between them, and the greatest of their widths.
+struct Sizes {
+    tall: Rows,
+    widest: Slices,
 }
 
 // One more than a stack may have components.
@@ -242,12 +248,80 @@ fn rest_at(widths: &[u32], heights: &[u32], k: usize) -> Best
     }
 }
 
+// The rows of the first k components without empty rows, and the greatest of their widths.
+fn sizes_of(h: &[u16], w: &[u16], k: usize) -> Sizes
+    requires { ⌜ SizesAsk (now h) (now w) k ⌝ }
+    ensures { λ r. ⌜ SizesOf (now (h .entry)) (now (w .entry)) k r ⌝ }
+{
+    let mut tall = 0;
+    let mut widest = 0;
+    let mut i = 0;
+    while i < k {
+        tall += wide(h[i]);
+        widest = larger(widest, wide(w[i]));
+        i += 1;
+    }
+    Sizes {
+        tall: Rows(tall),
+        widest: Slices(widest),
+    }
+}
+
+// A width that the best layout stays under: one more than that with k components in the first group, if there is such a
+// layout.
+fn bound_by(
+    kind: Kind,
+    limit: Rows,
+    g0: Rows,
+    k: usize,
+    h: &[u16],
+    w: &[u16],
+    g: &[u16],
+    widths: &[u32],
+    heights: &[u32],
+    work: &mut [u32],
+) -> Slices
+    requires { ⌜ FirstAsks kind (limit .0) (g0 .0) (now h) (now w) (now g) (now widths) (now heights) (now work) ⌝ }
+    ensures { λ r. ⌜ Under kind (limit .0) (g0 .0)
+        (componentsIn (now (h .entry)) (now (w .entry)) (now (g .entry))) (r .0) ⌝ }
+{
+    if k == 0 {
+        return Slices(NONE);
+    }
+    if h.len() < k {
+        return Slices(NONE);
+    }
+    let s = sizes_of(h, w, k);
+    let rest = rest_at(widths, heights, k - 1);
+    let none = Best {
+        width: Slices(NONE),
+        height: Rows(NONE),
+        end: 0,
+    };
+    let b = try_first(
+        kind,
+        limit,
+        g0,
+        s.tall,
+        s.widest,
+        k,
+        h,
+        w,
+        g,
+        none,
+        rest,
+        work,
+    );
+    Slices(lesser(NONE, b.width.0 + 1))
+}
+
 // The best layout of what is left of a stack, from the best ones behind 1, 2, 3 and so on of its components. Groups that
-// are too tall end the search.
+// are too tall end the search, and layouts as wide as a bound that the best one stays under are not searched for.
 fn first_group(
     kind: Kind,
     limit: Rows,
     g0: Rows,
+    bound: Slices,
     h: &[u16],
     w: &[u16],
     g: &[u16],
@@ -256,13 +330,14 @@ fn first_group(
     work: &mut [u32],
 ) -> Best
     requires { ⌜ FirstAsks kind (limit .0) (g0 .0) (now h) (now w) (now g) (now widths) (now heights) (now work) ⌝ }
+    requires { ⌜ Under kind (limit .0) (g0 .0) (componentsIn (now h) (now w) (now g)) (bound .0) ⌝ }
     ensures { λ r. ⌜ layoutIn r
         ≡ layoutOf kind (limit .0) (g0 .0) (componentsIn (now (h .entry)) (now (w .entry)) (now (g .entry))) ⌝ }
 {
     let n = h.len();
     let most = most_rows(kind, limit);
     let mut best = Best {
-        width: Slices(NONE),
+        width: bound,
         height: Rows(NONE),
         end: 0,
     };
@@ -295,6 +370,36 @@ fn first_group(
     best
 }
 
+// The best first group, where one of k components is likely: it is tried first, and what is wider is left out.
+fn likely_first(
+    kind: Kind,
+    limit: Rows,
+    g0: Rows,
+    k: usize,
+    h: &[u16],
+    w: &[u16],
+    g: &[u16],
+    widths: &[u32],
+    heights: &[u32],
+    work: &mut [u32],
+) -> Best
+    requires { ⌜ FirstAsks kind (limit .0) (g0 .0) (now h) (now w) (now g) (now widths) (now heights) (now work) ⌝ }
+    ensures { λ r. ⌜ layoutIn r
+        ≡ layoutOf kind (limit .0) (g0 .0) (componentsIn (now (h .entry)) (now (w .entry)) (now (g .entry))) ⌝ }
+{
+    let bound = bound_by(kind, limit, g0, k, h, w, g, widths, heights, work);
+    first_group(kind, limit, g0, bound, h, w, g, widths, heights, work)
+}
+
+// How many components a likely first group has: nested it ends where that of the next component ends. Apart no group is
+// searched, so a bound would gain nothing.
+fn likely_end(kind: Kind, next: u32) -> usize {
+    match kind {
+        Kind::Apart => 0,
+        Kind::Nested => next as usize + 1,
+    }
+}
+
 fn gap_before(g: &[u16], i: usize) -> Rows
     requires { ⌜ i ≤ length (now g) ⌝ }
     ensures { λ r. ⌜ r .0 ≡ gapBefore (now (g .entry)) i ⌝ }
@@ -305,7 +410,8 @@ fn gap_before(g: &[u16], i: usize) -> Rows
     Rows(wide(g[i - 1]))
 }
 
-// The best layout of what is left of a stack behind its first i components, where the lists hold the later ones.
+// The best layout of what is left of a stack behind its first i components, where the lists hold the later ones; `next_end` is
+// how many components the first group behind one more of them has.
 fn best_from(
     kind: Kind,
     limit: Rows,
@@ -315,6 +421,7 @@ fn best_from(
     g: &[u16],
     widths: &[u32],
     heights: &[u32],
+    next_end: u32,
     work: &mut [u32],
 ) -> Best
     requires { ⌜ FromAsks kind (limit .0) i (now h) (now w) (now g) (now widths) (now heights) (now work) ⌝ }
@@ -322,10 +429,11 @@ fn best_from(
         ≡ getD (layouts kind (limit .0) 0 (componentsIn (now (h .entry)) (now (w .entry)) (now (g .entry)))) i unmet ⌝ }
 {
     let next = i + 1;
-    first_group(
+    likely_first(
         kind,
         limit,
         gap_before(g, i),
+        likely_end(kind, next_end),
         &h[i..],
         &w[i..],
         &g[i..],
@@ -381,7 +489,8 @@ fn plan_at(
     if stays(known, limit, heights[i]) {
         return;
     }
-    let b = best_from(kind, limit, i, h, w, g, widths, heights, work);
+    let next_end = ends[i + 1];
+    let b = best_from(kind, limit, i, h, w, g, widths, heights, next_end, work);
     widths[i] = b.width.0;
     heights[i] = b.height.0;
     ends[i] = b.end;

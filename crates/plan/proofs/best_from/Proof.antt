@@ -9,74 +9,77 @@ add-next c = search needs
 gap-before-requires : tie.Need-gap-before-requires
 gap-before-requires c κs = search needs
 
-mul-first-group : tie.Need-mul-first-group
-mul-first-group c = search needs
+likely-end-requires : tie.Need-likely-end-requires
+likely-end-requires c κs = search needs
 
-sub-first-group : tie.Need-sub-first-group
-sub-first-group c = search needs
+mul-likely-first : tie.Need-mul-likely-first
+mul-likely-first c = search needs
 
-part-first-group-start : tie.Need-part-first-group-start
-part-first-group-start c = search needs
+sub-likely-first : tie.Need-sub-likely-first
+sub-likely-first c = search needs
 
-part-first-group-end : tie.Need-part-first-group-end
-part-first-group-end c = search needs
+part-likely-first-start : tie.Need-part-likely-first-start
+part-likely-first-start c = search needs
 
-mul-first-group-2 : tie.Need-mul-first-group-2
-mul-first-group-2 c = search needs
+part-likely-first-end : tie.Need-part-likely-first-end
+part-likely-first-end c = search needs
 
-sub-first-group-2 : tie.Need-sub-first-group-2
-sub-first-group-2 c = search needs
+mul-likely-first-2 : tie.Need-mul-likely-first-2
+mul-likely-first-2 c = search needs
 
-part-first-group-start-2 : tie.Need-part-first-group-start-2
-part-first-group-start-2 c = search needs
+sub-likely-first-2 : tie.Need-sub-likely-first-2
+sub-likely-first-2 c = search needs
 
-part-first-group-end-2 : tie.Need-part-first-group-end-2
-part-first-group-end-2 c = search needs
+part-likely-first-start-2 : tie.Need-part-likely-first-start-2
+part-likely-first-start-2 c = search needs
 
-mul-first-group-3 : tie.Need-mul-first-group-3
-mul-first-group-3 c = search needs
+part-likely-first-end-2 : tie.Need-part-likely-first-end-2
+part-likely-first-end-2 c = search needs
 
-sub-first-group-3 : tie.Need-sub-first-group-3
-sub-first-group-3 c = search needs
+mul-likely-first-3 : tie.Need-mul-likely-first-3
+mul-likely-first-3 c = search needs
 
-part-first-group-start-3 : tie.Need-part-first-group-start-3
-part-first-group-start-3 c = search needs
+sub-likely-first-3 : tie.Need-sub-likely-first-3
+sub-likely-first-3 c = search needs
 
-part-first-group-end-3 : tie.Need-part-first-group-end-3
-part-first-group-end-3 c = search needs
+part-likely-first-start-3 : tie.Need-part-likely-first-start-3
+part-likely-first-start-3 c = search needs
 
-mul-first-group-4 : tie.Need-mul-first-group-4
-mul-first-group-4 c = search needs
+part-likely-first-end-3 : tie.Need-part-likely-first-end-3
+part-likely-first-end-3 c = search needs
 
-sub-first-group-4 : tie.Need-sub-first-group-4
-sub-first-group-4 c = search needs
+mul-likely-first-4 : tie.Need-mul-likely-first-4
+mul-likely-first-4 c = search needs
 
-part-first-group-start-4 : tie.Need-part-first-group-start-4
-part-first-group-start-4 c = search needs
+sub-likely-first-4 : tie.Need-sub-likely-first-4
+sub-likely-first-4 c = search needs
 
-part-first-group-end-4 : tie.Need-part-first-group-end-4
-part-first-group-end-4 c = search needs
+part-likely-first-start-4 : tie.Need-part-likely-first-start-4
+part-likely-first-start-4 c = search needs
 
-mul-first-group-5 : tie.Need-mul-first-group-5
-mul-first-group-5 c = search needs
+part-likely-first-end-4 : tie.Need-part-likely-first-end-4
+part-likely-first-end-4 c = search needs
 
-sub-first-group-5 : tie.Need-sub-first-group-5
-sub-first-group-5 c = search needs
+mul-likely-first-5 : tie.Need-mul-likely-first-5
+mul-likely-first-5 c = search needs
 
-part-first-group-start-5 : tie.Need-part-first-group-start-5
-part-first-group-start-5 c = search needs
+sub-likely-first-5 : tie.Need-sub-likely-first-5
+sub-likely-first-5 c = search needs
 
-part-first-group-end-5 : tie.Need-part-first-group-end-5
-part-first-group-end-5 c = search needs
+part-likely-first-start-5 : tie.Need-part-likely-first-start-5
+part-likely-first-start-5 c = search needs
 
-first-group-requires : tie.Need-first-group-requires
-first-group-requires c κs = first-asks (c .before .before .before .before .before .before .before .before .before .before .before .before .before .pre) _ (c .before .before .before .before .before .before .gap-before .ensures)
+part-likely-first-end-5 : tie.Need-part-likely-first-end-5
+part-likely-first-end-5 c = search needs
+
+likely-first-requires : tie.Need-likely-first-requires
+likely-first-requires c κs = first-asks (c .before .before .before .before .before .before .before .before .before .before .before .before .before .before .pre) _ (c .before .before .before .before .before .before .before .gap-before .ensures)
 
 same-length : tie.Need-same-length
 same-length c = search needs
 
 returns : tie.Need-returns
-returns c = first-is (c .before .before .before .before .before .before .before .before .before .before .before .before .before .before .before .before .pre) _ (c .before .before .before .before .before .before .before .before .before .gap-before .ensures) _ (c .before .before .first-group .ensures)
+returns c = first-is (c .before .before .before .before .before .before .before .before .before .before .before .before .before .before .before .before .before .pre) _ (c .before .before .before .before .before .before .before .before .before .before .gap-before .ensures) _ (c .before .before .likely-first .ensures)
 
 pub best-from-spec : {M : Type 1} → statement M
 best-from-spec =
@@ -84,26 +87,27 @@ best-from-spec =
     (tie.spec
     add-next
     gap-before-requires
-    mul-first-group
-    sub-first-group
-    part-first-group-start
-    part-first-group-end
-    mul-first-group-2
-    sub-first-group-2
-    part-first-group-start-2
-    part-first-group-end-2
-    mul-first-group-3
-    sub-first-group-3
-    part-first-group-start-3
-    part-first-group-end-3
-    mul-first-group-4
-    sub-first-group-4
-    part-first-group-start-4
-    part-first-group-end-4
-    mul-first-group-5
-    sub-first-group-5
-    part-first-group-start-5
-    part-first-group-end-5
-    first-group-requires
+    likely-end-requires
+    mul-likely-first
+    sub-likely-first
+    part-likely-first-start
+    part-likely-first-end
+    mul-likely-first-2
+    sub-likely-first-2
+    part-likely-first-start-2
+    part-likely-first-end-2
+    mul-likely-first-3
+    sub-likely-first-3
+    part-likely-first-start-3
+    part-likely-first-end-3
+    mul-likely-first-4
+    sub-likely-first-4
+    part-likely-first-start-4
+    part-likely-first-end-4
+    mul-likely-first-5
+    sub-likely-first-5
+    part-likely-first-start-5
+    part-likely-first-end-5
+    likely-first-requires
     same-length
     returns)

@@ -17,23 +17,32 @@ stays-requires c κs = search needs
 returns : tie.Need-returns
 returns c = let s = c .before .stays .ensures (c .if1 .taken) in (plan-stays (c .before .before .before .before .before .before .before .before .before .before .pre) (s .0) (s .1), known-stays (c .before .before .before .before .before .before .before .before .before .before .pre) (s .0) (s .1))
 
+add-next-end : tie.Need-add-next-end
+add-next-end c = search needs
+
+mul-next-end : tie.Need-mul-next-end
+mul-next-end c = search needs
+
+slice-read-next-end : tie.Need-slice-read-next-end
+slice-read-next-end c = search needs
+
 best-from-requires : tie.Need-best-from-requires
-best-from-requires c κs = from-asks (c .before .before .before .before .before .before .before .before .before .before .before .before .before .pre)
+best-from-requires c κs = from-asks (c .before .before .before .before .before .before .before .before .before .before .before .before .before .before .pre)
 
 mul-widths : tie.Need-mul-widths
-mul-widths c = omega (arith, c .before .before .before .before .before .before .before .before .before .before .before .before .before .before .before .before .pre .within, c .before .before .before .before .before .before .before .before .before .before .before .before .before .before .before .before .pre .asks .lists .few, most-256 (c .before .before .before .before .before .before .before .before .before .before .before .before .before .before .before .before .args .kind))
+mul-widths c = omega (arith, c .before .before .before .before .before .before .before .before .before .before .before .before .before .before .before .before .before .pre .within, c .before .before .before .before .before .before .before .before .before .before .before .before .before .before .before .before .before .pre .asks .lists .few, most-256 (c .before .before .before .before .before .before .before .before .before .before .before .before .before .before .before .before .before .args .kind))
 
 slice-write-widths : tie.Need-slice-write-widths
 slice-write-widths c = search needs
 
 mul-heights : tie.Need-mul-heights
-mul-heights c = omega (arith, c .before .before .before .before .before .before .before .before .before .before .before .before .before .before .before .before .pre .within, c .before .before .before .before .before .before .before .before .before .before .before .before .before .before .before .before .pre .asks .lists .few, most-256 (c .before .before .before .before .before .before .before .before .before .before .before .before .before .before .before .before .args .kind))
+mul-heights c = omega (arith, c .before .before .before .before .before .before .before .before .before .before .before .before .before .before .before .before .before .pre .within, c .before .before .before .before .before .before .before .before .before .before .before .before .before .before .before .before .before .pre .asks .lists .few, most-256 (c .before .before .before .before .before .before .before .before .before .before .before .before .before .before .before .before .before .args .kind))
 
 slice-write-heights : tie.Need-slice-write-heights
 slice-write-heights c = search needs
 
 mul-ends : tie.Need-mul-ends
-mul-ends c = omega (arith, c .before .before .before .before .before .before .before .before .before .before .before .before .before .before .before .before .pre .within, c .before .before .before .before .before .before .before .before .before .before .before .before .before .before .before .before .pre .asks .lists .few, most-256 (c .before .before .before .before .before .before .before .before .before .before .before .before .before .before .before .before .args .kind))
+mul-ends c = omega (arith, c .before .before .before .before .before .before .before .before .before .before .before .before .before .before .before .before .before .pre .within, c .before .before .before .before .before .before .before .before .before .before .before .before .before .before .before .before .before .pre .asks .lists .few, most-256 (c .before .before .before .before .before .before .before .before .before .before .before .before .before .before .before .before .before .args .kind))
 
 slice-write-ends : tie.Need-slice-write-ends
 slice-write-ends c = search needs
@@ -51,7 +60,7 @@ same-length-4 : tie.Need-same-length-4
 same-length-4 c = search needs
 
 returns-2 : tie.Need-returns-2
-returns-2 c = (plan-more (c .before .before .before .before .before .before .before .before .before .before .before .before .before .before .before .before .pre) (c .before .before .best-from .result) (c .before .before .best-from .ensures), known-more (c .before .before .before .before .before .before .before .before .before .before .before .before .before .before .before .before .pre) (c .before .before .best-from .result))
+returns-2 c = (plan-more (c .before .before .before .before .before .before .before .before .before .before .before .before .before .before .before .before .before .pre) (c .before .before .best-from .result) (c .before .before .best-from .ensures), known-more (c .before .before .before .before .before .before .before .before .before .before .before .before .before .before .before .before .before .pre) (c .before .before .best-from .result))
 
 pub plan-at-spec : {M : Type 1} → statement M
 plan-at-spec =
@@ -61,6 +70,9 @@ plan-at-spec =
     slice-read-stays
     stays-requires
     returns
+    add-next-end
+    mul-next-end
+    slice-read-next-end
     best-from-requires
     mul-widths
     slice-write-widths
