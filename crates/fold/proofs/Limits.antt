@@ -8,7 +8,7 @@ use Rattle.terms.specs.declared.Kind.{Kind}
 use Rattle.terms.specs.Answer.{Answer, refusal, result}
 use Rattle.folding.specs.declared.Outline.{Outline}
 use Rattle.folding.specs.Best.{BestForHeight, BestForWidth, UnmeetableHeight, UnmeetableWidth}
-use Rattle.model.proofs.Best.{unmeetable-height, layout-high, below-one, below-next, no-lower, own-height}
+use Rattle.model.proofs.Best.{unmeetable-height, layout-high, below-one, below-next, below-own, no-lower, own-height}
 use Rattle.layout.specs.Layout.{layoutOf}
 use Rattle.layout.proofs.Foldings.{search}
 use Rattle.layout.proofs.Best.{best-height, best-width}
@@ -72,6 +72,18 @@ module _ (kind : Kind) (cs : List Component) (s : Stacked cs) where
               most = omega (arith, search kind cs s .keeps mid met, i .most);
               within = omega (arith, own-height (search kind cs s) mid met, narrow);
               below = i .below;
+            })
+
+        -- And if it is as wide as asked, it is the least.
+        pub exact : most ≤ o .width .0 → Between kind cs most (o .height .0) (o .height .0)
+        exact v =
+            let wide : most ≤ layoutOf kind mid 0 cs .width = rw e at v in
+            let same : layoutOf kind mid 0 cs .width ≡ most = omega (arith, narrow) in
+            rw e (record {
+              order = omega arith;
+              most = omega (arith, search kind cs s .keeps mid met, i .most);
+              within = omega (arith, own-height (search kind cs s) mid met, narrow);
+              below = rw same at (below-own (search kind cs s) mid met);
             })
 
       pub raise : most < o .width .0 → Between kind cs most (mid + 1) hi

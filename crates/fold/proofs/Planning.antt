@@ -15,6 +15,9 @@ use Rattle.trace.specs.Trace.{TraceAsks, Traced}
 use Rattle.plan.specs.Asks.{Plannable, PlanDone}
 use Rattle.fold.specs.Inner.{Written}
 
+pub plannable-again : {kind : Kind} {hs ws gs work work′ : List ℕ} → Plannable kind hs ws gs work → length work′ ≡ length work → Plannable kind hs ws gs work′
+plannable-again a e = record { lists = a .lists; some = a .some; room = omega (arith, a .room) }
+
 module _ {kind : Kind} {limit : ℕ} {hs ws gs work widths heights ends : List ℕ} {o : Outline} (a : Plannable kind hs ws gs work)
     (d : PlanDone kind limit (componentsIn hs ws gs) widths heights ends o) where
   pub unmet : none ≤ o .width .0 → none ≤ layoutOf kind limit 0 (componentsIn hs ws gs) .width
@@ -24,15 +27,15 @@ module _ {kind : Kind} {limit : ℕ} {hs ws gs work widths heights ends : List �
     met : layoutOf kind limit 0 (componentsIn hs ws gs) .width < none
     met = rw (d .outlined) at h
 
-    pub trace-asks : length widths ≡ 257 → length ends ≡ 257 → length work′ ≡ length work → 3 * length hs ≤ length out → TraceAsks kind 0 0 hs ws gs widths ends out work′
+    pub trace-asks : length hs < length widths → length hs < length ends → length work′ ≡ length work → 3 * length hs ≤ length out → TraceAsks kind 0 0 hs ws gs widths ends out work′
     trace-asks u v w r =
         let f : length hs ≤ 256 = omega (arith, a .lists .few, most-256 kind) in
         record {
           lists = a .lists;
           before = omega arith;
           number = omega arith;
-          widths-long = omega arith;
-          ends-long = omega arith;
+          widths-long = u;
+          ends-long = v;
           room = r;
           work-room = omega (arith, a .room);
           limit = limit;

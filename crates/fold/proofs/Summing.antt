@@ -1,6 +1,6 @@
 -- A stack without a fold, summed up from its components.
 use Prim.Native.Nat.{ℕ, suc, _+_, _-_, _*_, _≤_, _<_, max}
-use mathlib.Core.Path.{_≡_, refl, sym, _∙_}
+use mathlib.Core.Path.{_≡_, refl, _∙_}
 use mathlib.Core.List.{List, []}
 use native.Mathlib.Nat.{mul-le-mul}
 use native.Mathlib.Numerals.{add-one}
@@ -39,6 +39,12 @@ product-fits a b h k =
     let u : a ≤ 4294967295 = omega arith in
     let v : b ≤ 4294967295 = omega arith in
     omega (arith, mul-le-mul u v)
+
+-- Rows within the limit times slices of a layout are far from that.
+pub guess-fits : (a b : ℕ) → a ≤ 2000000 → b < 4000000 → a * b ≤ 8000000000000
+guess-fits a b h k =
+    let v : b ≤ 4000000 = omega arith in
+    omega (arith, mul-le-mul h v)
 
 -- What the first k components come to.
 pub record Summed (cs : List Component) (wide rows area k : ℕ) : Type 0 where

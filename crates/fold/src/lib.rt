@@ -11,7 +11,7 @@ ghost use Rattle.folding.specs.Calls.{measuredAnswer};
 ghost use Rattle.layout.specs.Plan.{StackLists};
 ghost use Rattle.fold.specs.Calls.{foldChecks, Searched, ToHeight, ToWidth};
 ghost use Rattle.fold.specs.Inner.{FirstLists, Foldable, FirstAnswered, Written};
-ghost use Rattle.fold.specs.Inner.{LeastFor, LeastAsks, mostArea, Unfolded};
+ghost use Rattle.fold.specs.Inner.{Replannable, LeastFound, LeastAsks, mostArea, Unfolded};
 use folding::Measured;
 use folding::Outline;
 use group::NONE;
@@ -33,14 +33,28 @@ const GUESSED: u32 = 4;
 // A folding leaves some of its outline empty: about one part in so many of what its components take.
 const SPARE: u64 = 8;
 
-// Behind a layout that is too wide the guess goes up by one row in so many, lest the next be too wide by little.
-const RISE: u32 = 128;
+// A layout that leaves less of the width than one part in so many is most likely the last that keeps it.
+const CLOSE: u64 = 64;
+
+// Behind a layout that is too wide the guess goes up by one row in so many, lest the next be too wide by little; steeper
+// behind the second in a row, and behind the third and later.
+const RISE: u32 = 64;
+
+const SECOND_RISE: u32 = 16;
+
+const LATER_RISE: u32 = 4;
 
 // A stack without a fold: its widest component, its height, and the rows times slices of all its components.
 struct Flat {
     widest: Slices,
     height: Rows,
     area: u64,
+}
+
+// What a search for a height found, and the limit of the plan that its lists hold. That is 0 where they hold none.
+struct Least {
+    limit: Rows,
+    known: Rows,
 }
 
 // Refusals 7 and 8 of a fold call, with buffers of these lengths lent.
@@ -62,8 +76,36 @@ fn check_lent(n: usize, limit: u32, out: usize, work: usize) -> Counted
     Counted::Count(n)
 }
 
-// Writes a folding with the outline of the best layout for a height.
+// Writes a folding with the outline of the best layout for a height, where the lists hold a plan for the limit `known`.
 fn write_best(
+    kind: Kind,
+    known: Rows,
+    limit: Rows,
+    h: &[u16],
+    w: &[u16],
+    g: &[u16],
+    widths: &mut [u32],
+    heights: &mut [u32],
+    ends: &mut [u32],
+    out: &mut [u32],
+    work: &mut [u32],
+) -> Measured
+    requires { ⌜ Foldable kind (limit .0) (now h) (now w) (now g) (now out) (now work) ⌝ }
+    requires { ⌜ Replannable kind (known .0) (limit .0)
+        (now h) (now w) (now g) (now widths) (now heights) (now ends) (now work) ⌝ }
+    ensures { λ r. ⌜ Written kind (componentsIn (now (h .entry)) (now (w .entry)) (now (g .entry))) (limit .0)
+        (now (out .entry)) (now (out .exit)) (measuredAnswer r) ⌝ }
+{
+    let o = plan::replan(kind, known, limit, h, w, g, widths, heights, ends, work);
+    if NONE <= o.width.0 {
+        return Measured::Refused(Refusal::Unmeetable);
+    }
+    trace::trace(kind, 0, Rows(0), h, w, g, widths, ends, out, work);
+    Measured::Outlined(o)
+}
+
+// The narrowest folding within a height, and of those the lowest.
+fn write_low(
     kind: Kind,
     limit: Rows,
     h: &[u16],
@@ -79,12 +121,19 @@ fn write_best(
     let mut wide = [0u32; LISTED];
     let mut high = [0u32; LISTED];
     let mut ends = [0u32; LISTED];
-    let o = plan::plan(kind, limit, h, w, g, &mut wide, &mut high, &mut ends, work);
-    if NONE <= o.width.0 {
-        return Measured::Refused(Refusal::Unmeetable);
-    }
-    trace::trace(kind, 0, Rows(0), h, w, g, &wide, &ends, out, work);
-    Measured::Outlined(o)
+    write_best(
+        kind,
+        Rows(0),
+        limit,
+        h,
+        w,
+        g,
+        &mut wide,
+        &mut high,
+        &mut ends,
+        out,
+        work,
+    )
 }
 
 fn long(x: u32) -> u64
@@ -134,19 +183,41 @@ fn first_guess(area: u64, most: Slices) -> u64
 // The height at which an outline as wide as asked has the same area.
 fn in_proportion(height: Rows, width: Slices, most: Slices) -> u64
     requires { ⌜ 0 < most .0 ⌝ }
+    ensures { λ r. ⌜ r ≤ height .0 * width .0 ⌝ }
 {
     product(height.0, width.0) / long(most.0)
 }
 
-// The height to try after a plan: width times height changes little from outline to outline. No answer rests on it.
-fn next_guess(most: Slices, tried: Rows, o: Outline) -> u64
+// The height to try after a plan that keeps the width. Width times height changes little from outline to outline.
+fn lower_guess(most: Slices, o: Outline) -> u64
+    requires { ⌜ (0 < most .0) × (o .width .0 ≤ most .0) ⌝ }
+{
+    if CLOSE * long(most.0 - o.width.0) < long(most.0) {
+        return long(o.height.0);
+    }
+    in_proportion(o.height, o.width, most)
+}
+
+// By how many rows the guess goes up behind a layout that is too wide, where `failed` in a row before it were so too.
+fn rise(tried: Rows, failed: u32) -> u32 {
+    if failed == 0 {
+        return tried.0 / RISE;
+    }
+    if failed == 1 {
+        return tried.0 / SECOND_RISE;
+    }
+    tried.0 / LATER_RISE
+}
+
+// The height to try after a plan, where `failed` in a row before it were too wide. No answer rests on it.
+fn next_guess(most: Slices, tried: Rows, o: Outline, failed: u32) -> u64
     requires { ⌜ (0 < most .0) × (tried .0 ≤ mostLimit) ⌝ }
 {
     if o.width.0 <= most.0 {
-        return in_proportion(o.height, o.width, most);
+        return lower_guess(most, o);
     }
     if o.width.0 < NONE {
-        return in_proportion(Rows(tried.0 + tried.0 / RISE), o.width, most);
+        return in_proportion(tried, o.width, most) + long(rise(tried, failed));
     }
     2 * long(tried.0)
 }
@@ -172,7 +243,8 @@ fn pick(lo: u32, hi: u32, guess: u64, plans: u32) -> u32
 }
 
 // The least height for which the best layout is at most so many slices wide, from one down for which it is. A layout that
-// is narrow enough is so within its own height, and that may be far below the height it was planned for.
+// is narrow enough is so within its own height, and that may be far below the height it was planned for. One exactly as
+// wide as asked is the last: below its height all are wider. A plan takes over from the one before what keeps its limit.
 fn least_height(
     kind: Kind,
     most: Slices,
@@ -181,28 +253,45 @@ fn least_height(
     h: &[u16],
     w: &[u16],
     g: &[u16],
+    widths: &mut [u32],
+    heights: &mut [u32],
+    ends: &mut [u32],
     work: &mut [u32],
-) -> Rows
-    requires { ⌜ LeastAsks kind (now h) (now w) (now g) (now work) (most .0) (top .0) ⌝ }
-    ensures { λ r. ⌜ LeastFor kind (componentsIn (now (h .entry)) (now (w .entry)) (now (g .entry))) (most .0) (r .0) ⌝ }
+) -> Least
+    requires { ⌜ LeastAsks kind
+        (now h) (now w) (now g) (now widths) (now heights) (now ends) (now work) (most .0) (top .0) ⌝ }
+    ensures { λ r. ⌜ LeastFound kind (componentsIn (now (h .entry)) (now (w .entry)) (now (g .entry)))
+        (now (widths .exit)) (now (heights .exit)) (now (ends .exit)) (most .0) r ⌝ }
 {
     let mut lo = 1;
     let mut hi = top.0;
+    let mut known = Rows(0);
     let mut guess = first;
     let mut plans = 0;
+    let mut failed = 0;
     while lo < hi {
         let mid = pick(lo, hi, guess, plans);
-        let o = plan::outline_at(kind, Rows(mid), h, w, g, work);
-        guess = next_guess(most, Rows(mid), o);
+        let tried = Rows(mid);
+        let o = plan::replan(kind, known, tried, h, w, g, widths, heights, ends, work);
+        known = tried;
+        guess = next_guess(most, tried, o, failed);
         plans += 1;
         let own = o.height.0;
         if o.width.0 <= most.0 {
             hi = own;
+            failed = 0;
+            if o.width.0 == most.0 {
+                lo = own;
+            }
         } else {
             lo = mid + 1;
+            failed += 1;
         }
     }
-    Rows(lo)
+    Least {
+        limit: Rows(lo),
+        known,
+    }
 }
 
 // The lowest folding within a width, and of those the narrowest. No folding is narrower than the widest component, and
@@ -225,9 +314,36 @@ fn write_slim(
     if most.0 < flat.widest.0 {
         return Measured::Refused(Refusal::Unmeetable);
     }
-    let top = flat.height;
-    let limit = least_height(kind, most, top, first_guess(flat.area, most), h, w, g, work);
-    write_best(kind, limit, h, w, g, out, work)
+    let first = first_guess(flat.area, most);
+    let mut wide = [0u32; LISTED];
+    let mut high = [0u32; LISTED];
+    let mut ends = [0u32; LISTED];
+    let least = least_height(
+        kind,
+        most,
+        flat.height,
+        first,
+        h,
+        w,
+        g,
+        &mut wide,
+        &mut high,
+        &mut ends,
+        work,
+    );
+    write_best(
+        kind,
+        least.known,
+        least.limit,
+        h,
+        w,
+        g,
+        &mut wide,
+        &mut high,
+        &mut ends,
+        out,
+        work,
+    )
 }
 
 // A stack that stands in the first n entries of three lists, to a height.
@@ -248,7 +364,7 @@ fn first_to_height(
 {
     match check_lent(n, limit.0, out.len(), work.len()) {
         Counted::Refused(k) => Measured::Refused(k),
-        Counted::Count(_) => write_best(kind, limit, &h[..n], &w[..n], &g[..n], out, work),
+        Counted::Count(_) => write_low(kind, limit, &h[..n], &w[..n], &g[..n], out, work),
     }
 }
 

@@ -74,6 +74,22 @@ module _ {F : Type 0} {Legal : F → Type 0} {outlineOf : F → Outline} {best :
     pub no-lower : (mid : ℕ) → best mid .width < none → best mid .width ≤ w → lim ≤ best mid .height
     no-lower mid m h = let r = s .some mid m in rw (r .2) at (not-below (r .0) (r .1) (rw (r .2) h))
 
+  -- Below the height of a best layout all are wider.
+  pub below-own : (mid : ℕ) → best mid .width < none → Below best (best mid .width) (best mid .height)
+  below-own mid m k e = go (order (best k .width) (best mid .width))
+    where
+      no : Wider (outlineBy (best mid)) (outlineBy (best k)) → best k .width ≤ best mid .width → ⊥
+      no (inl o) h = absurd (omega arith)
+      no (inr o) h = absurd (omega (arith, o .1, s .keeps k (omega arith)))
+
+      go : (best k .width ≤ best mid .width) ⊎ (best mid .width < best k .width) → best mid .width < best k .width
+      go (inr h) = h
+      go (inl h) =
+          let n : best k .width < none = omega arith in
+          let r = s .some k n in
+          let within : outlineOf (r .0) .height .0 ≤ mid = rw (r .2) (omega (arith, s .keeps k n, s .keeps mid m)) in
+          absurd (no (rw (r .2) at (s .every mid (r .0) (r .1) within .0)) h)
+
   pub unmeetable-width : (w : ℕ) → w < best mostLimit .width → (f : F) → Legal f → outlineOf f .width .0 ≤ w → ⊥
   unmeetable-width w n f l k =
       let e = s .every mostLimit f l (s .low f l) in

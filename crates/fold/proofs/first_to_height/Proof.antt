@@ -7,6 +7,7 @@ use Rattle.terms.specs.Answer.{countAnswer}
 use lib.Seq.{length-take-le}
 use Rattle.fold.proofs.Answering.{first-refused, search-asks, first-height}
 use mathlib.Core.Path.{sym, _∙_}
+use native.Mathlib.Omega.{arith}
 use denote.Ref.{now}
 use borrow.Author.Needs.{needs}
 use Rattle.fold.proofs.first_to_height.Statement.{statement}
@@ -21,17 +22,17 @@ enum-known-k c = search needs
 enum-told : tie.Need-enum-told
 enum-told c = search needs
 
-slice-aggregate-write-best : tie.Need-slice-aggregate-write-best
-slice-aggregate-write-best c = sym (length-take-le _ _ (c .before .before .before .before .before .before .before .before .before .pre .heights-long))
+slice-aggregate-write-low : tie.Need-slice-aggregate-write-low
+slice-aggregate-write-low c = sym (length-take-le _ _ (c .before .before .before .before .before .before .before .before .before .pre .heights-long))
 
-slice-aggregate-write-best-2 : tie.Need-slice-aggregate-write-best-2
-slice-aggregate-write-best-2 c = sym (length-take-le _ _ (c .before .before .before .before .before .before .before .before .before .before .pre .widths-long))
+slice-aggregate-write-low-2 : tie.Need-slice-aggregate-write-low-2
+slice-aggregate-write-low-2 c = sym (length-take-le _ _ (c .before .before .before .before .before .before .before .before .before .before .pre .widths-long))
 
-slice-aggregate-write-best-3 : tie.Need-slice-aggregate-write-best-3
-slice-aggregate-write-best-3 c = sym (length-take-le _ _ (c .before .before .before .before .before .before .before .before .before .before .before .pre .gaps-long))
+slice-aggregate-write-low-3 : tie.Need-slice-aggregate-write-low-3
+slice-aggregate-write-low-3 c = sym (length-take-le _ _ (c .before .before .before .before .before .before .before .before .before .before .before .pre .gaps-long))
 
-write-best-requires : tie.Need-write-best-requires
-write-best-requires c κs = let a = c .before .before .before .before .before .before .before .before .before .before .before .before .before .args in search-asks (a .kind) (a .n) (a .limit .0) (now (a .h)) (now (a .w)) (now (a .g)) (now (a .out)) (now (a .work)) (c .before .before .before .before .before .before .before .before .before .before .before .before .before .pre) _ (sym (c .before .before .before .before .before .before .before .check-lent .ensures) ∙ ap countAnswer (c .before .before .before .before .before .enum-told .given .1))
+write-low-requires : tie.Need-write-low-requires
+write-low-requires c κs = let a = c .before .before .before .before .before .before .before .before .before .before .before .before .before .args in let q = search-asks (a .kind) (a .n) (a .limit .0) (now (a .h)) (now (a .w)) (now (a .g)) (now (a .out)) (now (a .work)) (c .before .before .before .before .before .before .before .before .before .before .before .before .before .pre) _ (sym (c .before .before .before .before .before .before .before .check-lent .ensures) ∙ ap countAnswer (c .before .before .before .before .before .enum-told .given .1)) in (q .0, omega (arith, q .1), q .2)
 
 returns : tie.Need-returns
 returns c = let a = c .before .before .before .before .before .before .before .before .before .args in first-refused BestForHeight UnmeetableHeight (a .kind) (a .limit .0) (now (a .out)) (now (a .work)) (a .n) _ (componentsIn (take (a .n) (now (a .h))) (take (a .n) (now (a .w))) (take (a .n) (now (a .g)))) (sym (c .before .before .before .check-lent .ensures) ∙ ap countAnswer (c .before .k .given .1))
@@ -43,7 +44,7 @@ same-length-2 : tie.Need-same-length-2
 same-length-2 c = search needs
 
 returns-2 : tie.Need-returns-2
-returns-2 c = let a = c .before .before .before .before .before .before .before .before .before .before .before .before .before .before .before .before .before .before .args in first-height (a .kind) (a .n) (a .limit .0) (now (a .h)) (now (a .w)) (now (a .g)) (now (a .out)) (now (a .work)) (c .before .before .before .before .before .before .before .before .before .before .before .before .before .before .before .before .before .before .pre) _ (sym (c .before .before .before .before .before .before .before .before .before .before .before .before .check-lent .ensures) ∙ ap countAnswer (c .before .before .before .before .before .before .before .before .before .before .enum-told .given .1)) (c .before .before .before .before .write-best .last .1 .1 .1 .1 .1 .0) _ (measuredAnswer (c .before .before .before .before .write-best .result)) (c .before .before .before .before .write-best .ensures)
+returns-2 c = let a = c .before .before .before .before .before .before .before .before .before .before .before .before .before .before .before .before .before .before .args in first-height (a .kind) (a .n) (a .limit .0) (now (a .h)) (now (a .w)) (now (a .g)) (now (a .out)) (now (a .work)) (c .before .before .before .before .before .before .before .before .before .before .before .before .before .before .before .before .before .before .pre) _ (sym (c .before .before .before .before .before .before .before .before .before .before .before .before .check-lent .ensures) ∙ ap countAnswer (c .before .before .before .before .before .before .before .before .before .before .enum-told .given .1)) (c .before .before .before .before .write-low .last .1 .1 .1 .1 .1 .0) _ (measuredAnswer (c .before .before .before .before .write-low .result)) (c .before .before .before .before .write-low .ensures)
 
 pub first-to-height-spec : {M : Type 1} → statement M
 first-to-height-spec =
@@ -52,10 +53,10 @@ first-to-height-spec =
     check-lent-requires
     enum-known-k
     enum-told
-    slice-aggregate-write-best
-    slice-aggregate-write-best-2
-    slice-aggregate-write-best-3
-    write-best-requires
+    slice-aggregate-write-low
+    slice-aggregate-write-low-2
+    slice-aggregate-write-low-3
+    write-low-requires
     returns
     same-length
     same-length-2

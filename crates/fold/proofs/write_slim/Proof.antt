@@ -1,7 +1,10 @@
+use mathlib.Core.Path.{refl}
 use Rattle.fold.proofs.Limits.{too-slim, slim-some, starts, to-width}
 use Rattle.fold.proofs.Held.{stacked}
 use Rattle.fold.proofs.Summing.{any-kind}
+use Rattle.fold.proofs.Planning.{plannable-again}
 use Rattle.folding.specs.Calls.{measuredAnswer}
+use Rattle.plan.proofs.Outlines.{plan-asks}
 use native.Mathlib.Omega.{arith}
 use borrow.Author.Needs.{needs}
 use Rattle.fold.proofs.write_slim.Statement.{statement}
@@ -14,13 +17,31 @@ returns : tie.Need-returns
 returns c = too-slim _ _ (stacked _ _ _ _ (c .before .before .before .before .before .before .before .before .before .pre .0 .lists) (c .before .before .before .before .before .before .before .before .before .pre .0 .some)) _ (c .before .before .before .before .before .before .before .before .before .pre .1) _ _ (c .before .before .before .flat-of .ensures) (c .if1 .taken)
 
 first-guess-requires : tie.Need-first-guess-requires
-first-guess-requires c κs = (c .before .before .before .before .flat-of .ensures .area-most, slim-some (stacked _ _ _ _ (c .before .before .before .before .before .before .before .before .before .before .pre .0 .lists) (c .before .before .before .before .before .before .before .before .before .before .pre .0 .some)) (c .before .before .before .before .flat-of .ensures) _ (c .before .if1 .left))
+first-guess-requires c κs = (c .before .before .before .flat-of .ensures .area-most, slim-some (stacked _ _ _ _ (c .before .before .before .before .before .before .before .before .before .pre .0 .lists) (c .before .before .before .before .before .before .before .before .before .pre .0 .some)) (c .before .before .before .flat-of .ensures) _ (c .if1 .left))
+
+slice-aggregate-least-height : tie.Need-slice-aggregate-least-height
+slice-aggregate-least-height c = search needs
+
+slice-aggregate-least-height-2 : tie.Need-slice-aggregate-least-height-2
+slice-aggregate-least-height-2 c = search needs
+
+slice-aggregate-least-height-3 : tie.Need-slice-aggregate-least-height-3
+slice-aggregate-least-height-3 c = search needs
 
 least-height-requires : tie.Need-least-height-requires
-least-height-requires c κs = record { plannable = c .before .before .before .before .before .before .before .before .before .before .before .before .pre .0; w-some = slim-some (stacked _ _ _ _ (c .before .before .before .before .before .before .before .before .before .before .before .before .pre .0 .lists) (c .before .before .before .before .before .before .before .before .before .before .before .before .pre .0 .some)) (c .before .before .before .before .before .before .flat-of .ensures) _ (c .before .before .before .if1 .left); w-most = c .before .before .before .before .before .before .before .before .before .before .before .before .pre .1; between = starts _ _ (stacked _ _ _ _ (c .before .before .before .before .before .before .before .before .before .before .before .before .pre .0 .lists) (c .before .before .before .before .before .before .before .before .before .before .before .before .pre .0 .some)) _ (c .before .before .before .before .before .before .before .before .before .before .before .before .pre .1) _ (c .before .before .before .before .before .before .flat-of .ensures) (c .before .before .before .if1 .left) }
+least-height-requires c κs = record { plan = plan-asks _ _ _ _ _ _ (c .before .before .before .before .before .before .before .before .before .before .before .before .before .before .pre .0) (omega arith) _ _ _ refl refl refl; w-some = slim-some (stacked _ _ _ _ (c .before .before .before .before .before .before .before .before .before .before .before .before .before .before .pre .0 .lists) (c .before .before .before .before .before .before .before .before .before .before .before .before .before .before .pre .0 .some)) (c .before .before .before .before .before .before .before .before .flat-of .ensures) _ (c .before .before .before .before .before .if1 .left); w-most = c .before .before .before .before .before .before .before .before .before .before .before .before .before .before .pre .1; between = starts _ _ (stacked _ _ _ _ (c .before .before .before .before .before .before .before .before .before .before .before .before .before .before .pre .0 .lists) (c .before .before .before .before .before .before .before .before .before .before .before .before .before .before .pre .0 .some)) _ (c .before .before .before .before .before .before .before .before .before .before .before .before .before .before .pre .1) _ (c .before .before .before .before .before .before .before .before .flat-of .ensures) (c .before .before .before .before .before .if1 .left) }
+
+slice-aggregate-write-best : tie.Need-slice-aggregate-write-best
+slice-aggregate-write-best c = search needs
+
+slice-aggregate-write-best-2 : tie.Need-slice-aggregate-write-best-2
+slice-aggregate-write-best-2 c = search needs
+
+slice-aggregate-write-best-3 : tie.Need-slice-aggregate-write-best-3
+slice-aggregate-write-best-3 c = search needs
 
 write-best-requires : tie.Need-write-best-requires
-write-best-requires c κs = (record { lists = c .before .before .before .before .before .before .before .before .before .before .before .before .before .before .before .before .before .pre .0 .lists; some = c .before .before .before .before .before .before .before .before .before .before .before .before .before .before .before .before .before .pre .0 .some; room = omega (arith, c .before .before .before .before .least-height .kept .1 .1 .1 .1 .1 .1 .1 .0, c .before .before .before .before .before .before .before .before .before .before .before .before .before .before .before .before .before .pre .0 .room) }, omega (arith, c .before .before .before .before .before .before .before .before .before .before .before .flat-of .ensures .low, c .before .before .before .before .least-height .ensures .most), c .before .before .before .before .before .before .before .before .before .before .before .before .before .before .before .before .before .pre .2)
+write-best-requires c κs = ((plannable-again (c .before .before .before .before .before .before .before .before .before .before .before .before .before .before .before .before .before .before .before .before .before .before .before .before .before .pre .0) (c .before .before .before .before .before .before .before .before .before .before .least-height .kept .1 .1 .1 .1 .1 .1 .1 .1 .1 .1 .0), omega (arith, c .before .before .before .before .before .before .before .before .before .before .before .before .before .before .before .before .before .before .before .flat-of .ensures .low, c .before .before .before .before .before .before .before .before .before .before .least-height .ensures .least-for .most), c .before .before .before .before .before .before .before .before .before .before .before .before .before .before .before .before .before .before .before .before .before .before .before .before .before .pre .2), (plan-asks _ _ _ _ _ _ (plannable-again (c .before .before .before .before .before .before .before .before .before .before .before .before .before .before .before .before .before .before .before .before .before .before .before .before .before .pre .0) (c .before .before .before .before .before .before .before .before .before .before .least-height .kept .1 .1 .1 .1 .1 .1 .1 .1 .1 .1 .0)) (omega (arith, c .before .before .before .before .before .before .before .before .before .before .before .before .before .before .before .before .before .before .before .flat-of .ensures .low, c .before .before .before .before .before .before .before .before .before .before .least-height .ensures .least-for .most)) _ _ _ (c .before .before .before .before .before .before .before .before .before .before .least-height .kept .1 .1 .1 .1 .1 .1 .1 .0) (c .before .before .before .before .before .before .before .before .before .before .least-height .kept .1 .1 .1 .1 .1 .1 .1 .1 .0) (c .before .before .before .before .before .before .before .before .before .before .least-height .kept .1 .1 .1 .1 .1 .1 .1 .1 .1 .0), λ h. c .before .before .before .before .before .before .before .before .before .before .least-height .ensures .held (omega arith)))
 
 same-length : tie.Need-same-length
 same-length c = search needs
@@ -29,7 +50,7 @@ same-length-2 : tie.Need-same-length-2
 same-length-2 c = search needs
 
 returns-2 : tie.Need-returns-2
-returns-2 c = to-width _ _ (stacked _ _ _ _ (c .before .before .before .before .before .before .before .before .before .before .before .before .before .before .before .before .before .before .before .before .before .before .pre .0 .lists) (c .before .before .before .before .before .before .before .before .before .before .before .before .before .before .before .before .before .before .before .before .before .before .pre .0 .some)) _ (c .before .before .before .before .before .before .before .before .before .before .before .before .before .before .before .before .before .before .before .before .before .before .pre .1) _ _ (c .before .before .before .before .write-best .last .1 .1 .1 .1 .1 .0) (measuredAnswer (c .before .before .before .before .write-best .result)) (c .before .before .before .before .before .before .before .before .before .least-height .ensures) (c .before .before .before .before .write-best .ensures)
+returns-2 c = to-width _ _ (stacked _ _ _ _ (c .before .before .before .before .before .before .before .before .before .before .before .before .before .before .before .before .before .before .before .before .before .before .before .before .before .before .before .before .before .before .before .before .before .pre .0 .lists) (c .before .before .before .before .before .before .before .before .before .before .before .before .before .before .before .before .before .before .before .before .before .before .before .before .before .before .before .before .before .before .before .before .before .pre .0 .some)) _ (c .before .before .before .before .before .before .before .before .before .before .before .before .before .before .before .before .before .before .before .before .before .before .before .before .before .before .before .before .before .before .before .before .before .pre .1) _ _ (c .before .before .before .before .before .before .before .write-best .last .1 .1 .1 .1 .1 .1 .1 .1 .1 .0) (measuredAnswer (c .before .before .before .before .before .before .before .write-best .result)) (c .before .before .before .before .before .before .before .before .before .before .before .before .before .before .before .before .before .before .least-height .ensures .least-for) (c .before .before .before .before .before .before .before .write-best .ensures)
 
 pub write-slim-spec : {M : Type 1} → statement M
 write-slim-spec =
@@ -38,7 +59,13 @@ write-slim-spec =
     flat-of-requires
     returns
     first-guess-requires
+    slice-aggregate-least-height
+    slice-aggregate-least-height-2
+    slice-aggregate-least-height-3
     least-height-requires
+    slice-aggregate-write-best
+    slice-aggregate-write-best-2
+    slice-aggregate-write-best-3
     write-best-requires
     same-length
     same-length-2
