@@ -3,6 +3,7 @@ pub mod Gaps
 pub mod Bests
 pub mod Trying
 pub mod Scanning
+pub mod Remembering
 pub mod Planning
 pub mod Outlines
 pub mod Sizing

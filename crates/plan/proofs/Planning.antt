@@ -21,7 +21,9 @@ use Rattle.layout.specs.Layout.{Layout, unmet, empty, groups, layouts, layoutOf
 use Rattle.layout.specs.Table.{outline}
 use Rattle.layout.specs.Plan.{PlannedAt}
 use Rattle.plan.specs.declared.Best.{Best}
-use Rattle.plan.specs.Asks.{layoutIn, Later, FirstAsks, FromAsks, PlanAsks, PlannedFrom, PlanDone, gapBefore, planRoom, KnownTo, Known, EntryAsks}
+use Rattle.plan.specs.Asks.{layoutIn, Later, FirstAsks, FromAsks, PlanAsks, PlannedFrom, PlanDone, gapBefore, planRoom, KnownTo}
+use Rattle.plan.specs.Memory.{rowFor, RowAsks, RowDone, RowRoom, Readied, RowsFrom, RowsTo, Memory, EntryAsks, EntryDone, Known}
+use Rattle.plan.proofs.Remembering.{row-start, row-asks, row-room, rows-from, rows-to, rows-none, rows-known}
 use Rattle.plan.proofs.Gaps.{gap-near}
 use Rattle.plan.proofs.Columns.{component-at, gap-last}
 use Rattle.layout.proofs.Groups.{groups-laws}
@@ -36,7 +38,7 @@ module _ (kind : Kind) (limit : ℕ) where
       (sym (layouts-drop (λ x. gap x) (candidateFor (groups kind) limit) 0 (componentsIn hs ws gs) (suc i) (omega arith) (omega (arith, components-length hs ws gs))
       ∙ rw (gap-last (componentsIn hs ws gs) i (componentIn [] [] [] 0) (omega (arith, components-length hs ws gs)), component-at hs ws gs i (omega arith))))
 
-module _ {kind : Kind} {limit i : ℕ} {hs ws gs widths heights es : List ℕ} (a : FromAsks kind limit i hs ws gs widths heights es) where
+module _ {kind : Kind} {limit i : ℕ} {hs ws gs widths heights : List ℕ} (a : FromAsks kind limit i hs ws gs widths heights) where
   abbrev all : List Layout
   all = layouts kind limit 0 (componentsIn hs ws gs)
 
@@ -59,7 +61,7 @@ module _ {kind : Kind} {limit i : ℕ} {hs ws gs widths heights es : List ℕ} (
         (a .height-is (i + 1 + k) (omega arith) (omega (arith, few)) ∙ ap (λ (z : ℕ). getD all z unmet .height) (omega arith));
   }
 
-  first-drops : FirstAsks kind limit (gapBefore gs i) (drop i hs) (drop i ws) (drop i gs) (drop (i + 1) widths) (drop (i + 1) heights) es
+  first-drops : FirstAsks kind limit (gapBefore gs i) (drop i hs) (drop i ws) (drop i gs) (drop (i + 1) widths) (drop (i + 1) heights)
   first-drops = record {
     lists = lists-drop (a .lists) i (omega (arith, a .within));
     some = omega (arith, length-drop i hs, a .within);
@@ -67,12 +69,11 @@ module _ {kind : Kind} {limit i : ℕ} {hs ws gs widths heights es : List ℕ} (
     before = gap-near gs i (a .lists .near);
     widths-long = omega (arith, length-drop i hs, length-drop (i + 1) widths, a .widths-long, a .within);
     heights-long = omega (arith, length-drop i hs, length-drop (i + 1) heights, a .heights-long, a .within);
-    room = a .room;
     later = later;
   }
 
   module _ (g0 : ℕ) (eg : g0 ≡ gapBefore gs i) where
-    pub first-asks : FirstAsks kind limit g0 (take (length hs - i) (drop i hs)) (take (length ws - i) (drop i ws)) (take (length gs - i) (drop i gs)) (take (length widths - (i + 1)) (drop (i + 1) widths)) (take (length heights - (i + 1)) (drop (i + 1) heights)) es
+    pub first-asks : FirstAsks kind limit g0 (take (length hs - i) (drop i hs)) (take (length ws - i) (drop i ws)) (take (length gs - i) (drop i gs)) (take (length widths - (i + 1)) (drop (i + 1) widths)) (take (length heights - (i + 1)) (drop (i + 1) heights))
     first-asks = rw (from i hs, from i ws, from i gs, from (i + 1) widths, from (i + 1) heights, eg) first-drops
 
     pub first-is : (r : Layout) → r ≡ layoutOf kind limit g0 (componentsIn (take (length hs - i) (drop i hs)) (take (length ws - i) (drop i ws)) (take (length gs - i) (drop i gs)))
@@ -114,7 +115,7 @@ module _ {kind : Kind} {limit : ℕ} {hs ws gs widths heights ends es : List ℕ
     room = room;
   }
 
-  pub plan-start : PlannedFrom kind limit (componentsIn hs ws gs) (set widths (length hs) 0) (set heights (length hs) 0) (set ends (length hs) 0) (length hs)
+  plan-start : PlannedFrom kind limit (componentsIn hs ws gs) (set widths (length hs) 0) (set heights (length hs) 0) (set ends (length hs) 0) (length hs)
   plan-start = record {
     at = λ j h k.
         let e : j ≡ length hs = omega (arith, long) in
@@ -125,9 +126,20 @@ module _ {kind : Kind} {limit : ℕ} {hs ws gs widths heights ends es : List ℕ
         });
   }
 
-  pub known-start : {known : ℕ} → Known kind known limit (componentsIn hs ws gs) widths heights ends
+  known-start : {known : ℕ} → Known kind known limit hs ws gs widths heights ends es
       → KnownTo kind known limit (componentsIn hs ws gs) (set widths (length hs) 0) (set heights (length hs) 0) (set ends (length hs) 0) (length hs)
-  known-start k = known-set {widths = widths} {heights = heights} {ends = ends} {to = length hs} (length hs) 0 0 0 (omega arith) (record { at = λ l j h. k l .at j (omega (arith, long)) })
+  known-start k = known-set {widths = widths} {heights = heights} {ends = ends} {to = length hs} (length hs) 0 0 0 (omega arith) (record { at = λ l j h. k l .0 .at j (omega (arith, long)) })
+
+  pub rows-start : {known : ℕ} → Known kind known limit hs ws gs widths heights ends es → EntryDone kind known limit (length hs) hs ws gs (set widths (length hs) 0) (set heights (length hs) 0) (set ends (length hs) 0) es
+  rows-start {known} k = record {
+    behind = plan-start;
+    before = known-start k;
+    rows-behind = rows-none kind limit hs ws gs es;
+    rows-before = rows-known kind known limit hs ws gs es (λ l. k l .1);
+  }
+
+  pub all-rows : {known later : ℕ} → EntryDone kind known limit later hs ws gs widths heights ends es → later ≡ 0 → Memory kind limit hs ws gs es
+  all-rows d e = rw e at (d .rows-behind)
 
   pub plan-done : {later : ℕ} → PlannedFrom kind limit (componentsIn hs ws gs) widths heights ends later → later ≡ 0
       → PlanDone kind limit (componentsIn hs ws gs) widths heights ends (outline (getD widths 0 0) (getD heights 0 0))
@@ -135,26 +147,27 @@ module _ {kind : Kind} {limit : ℕ} {hs ws gs widths heights ends es : List ℕ
       let first = s .at 0 (omega arith) (omega arith) in
       record { planned = record { at = λ j h. s .at j (omega arith) h }; outlined = rw (first .width-is, first .height-is) }
 
-pub entry-asks : {kind : Kind} {known limit later : ℕ} {hs ws gs widths heights ends es : List ℕ} (i : ℕ) → PlanAsks kind limit hs ws gs widths heights ends es
-    → PlannedFrom kind limit (componentsIn hs ws gs) widths heights ends later → KnownTo kind known limit (componentsIn hs ws gs) widths heights ends later
-    → later ≤ length hs → i + 1 ≡ later → EntryAsks kind known limit i hs ws gs widths heights ends es
-entry-asks {later = later} i a p k l e = let z : suc i ≡ later = omega arith in record { asks = a; within = omega arith; behind = rw z p; before = rw z k }
+pub entry-asks : {kind : Kind} {known limit later : ℕ} {hs ws gs widths heights ends es : List ℕ} (i row : ℕ) → PlanAsks kind limit hs ws gs widths heights ends es
+    → EntryDone kind known limit later hs ws gs widths heights ends es → later ≤ length hs → i + 1 ≡ later → row ≡ rowFor (length hs - later + 1) → EntryAsks kind known limit i row hs ws gs widths heights ends es
+entry-asks {later = later} {hs = hs} i row a d l e r =
+    let z : suc i ≡ later = omega arith in
+    let y : length hs - later + 1 ≡ length hs - i = omega arith in
+    record { asks = a; within = omega arith; row-is = rw y at r; behind = rw z (d .behind); before = rw z (d .before); rows-behind = rw z (d .rows-behind); rows-before = rw z (d .rows-before) }
 
-module _ {kind : Kind} {known limit i : ℕ} {hs ws gs widths heights ends es : List ℕ} (a : EntryAsks kind known limit i hs ws gs widths heights ends es) where
-  pub from-asks : FromAsks kind limit i hs ws gs widths heights es
+module _ {kind : Kind} {known limit i row : ℕ} {hs ws gs widths heights ends es : List ℕ} (a : EntryAsks kind known limit i row hs ws gs widths heights ends es) where
+  pub from-asks : FromAsks kind limit i hs ws gs widths heights
   from-asks = record {
     lists = a .asks .lists;
     within = a .within;
     limit-most = a .asks .limit-most;
     widths-long = a .asks .widths-long;
     heights-long = a .asks .heights-long;
-    room = a .asks .room;
     width-is = λ j h k. a .behind .at j h (omega (arith, components-length hs ws gs)) .width-is;
     height-is = λ j h k. a .behind .at j h (omega (arith, components-length hs ws gs)) .height-is;
   }
 
   -- The entry is searched.
-  pub plan-more : (b : Best) → layoutIn b ≡ getD (layouts kind limit 0 (componentsIn hs ws gs)) i unmet
+  plan-more : (b : Best) → layoutIn b ≡ getD (layouts kind limit 0 (componentsIn hs ws gs)) i unmet
       → PlannedFrom kind limit (componentsIn hs ws gs) (set widths i (b .width .0)) (set heights i (b .height .0)) (set ends i (b .end)) i
   plan-more b f = record { at = λ j h k. go j k (eq-or-lt-of-le h) }
     where
@@ -169,7 +182,7 @@ module _ {kind : Kind} {known limit i : ℕ} {hs ws gs widths heights ends es : 
           let n : j ≡ i → ⊥ = λ z. omega arith in
           rw (getD-set-other widths i j (b .width .0) 0 n, getD-set-other heights i j (b .height .0) 0 n, getD-set-other ends i j (b .end) 0 n) (a .behind .at j q k)
 
-  pub known-more : (b : Best) → KnownTo kind known limit (componentsIn hs ws gs) (set widths i (b .width .0)) (set heights i (b .height .0)) (set ends i (b .end)) i
+  known-more : (b : Best) → KnownTo kind known limit (componentsIn hs ws gs) (set widths i (b .width .0)) (set heights i (b .height .0)) (set ends i (b .end)) i
   known-more b = known-set i (b .width .0) (b .height .0) (b .end) (omega arith) (a .before)
 
   -- It stays as it is.
@@ -182,12 +195,40 @@ module _ {kind : Kind} {known limit i : ℕ} {hs ws gs widths heights ends es : 
         layouts-fall (groups-laws kind (λ last. mayStand kind) (λ last. suits kind)) known limit (omega arith) (omega (arith, a .asks .limit-most)) 0 (componentsIn hs ws gs) (good-lists (a .asks .lists)) i
         .stays (omega (arith, entry .height-is))
 
-    pub plan-stays : PlannedFrom kind limit (componentsIn hs ws gs) widths heights ends i
+    plan-stays : PlannedFrom kind limit (componentsIn hs ws gs) widths heights ends i
     plan-stays = record { at = λ j h k. go j k (eq-or-lt-of-le h) }
       where
         go : (j : ℕ) → j ≤ length (componentsIn hs ws gs) → (i ≡ j) ⊎ (i < j) → PlannedAt (getD (layouts kind limit 0 (componentsIn hs ws gs)) j unmet) (getD widths j 0) (getD heights j 0) (getD ends j 0)
         go j k (inl q) = rw (← q, same-layout) entry
         go j k (inr q) = a .behind .at j q k
 
-    pub known-stays : KnownTo kind known limit (componentsIn hs ws gs) widths heights ends i
+    known-stays : KnownTo kind known limit (componentsIn hs ws gs) widths heights ends i
     known-stays = record { at = λ l j h. a .before .at l j (omega arith) }
+
+  -- The row of its first groups.
+  pub entry-room : (es′ : List ℕ) → length es′ ≡ length es → RowRoom kind row (length hs - i) es′
+  entry-room es′ l = rw (a .row-is) (row-room hs ws gs i (a .within) kind es′ (omega (arith, a .asks .room)) (a .asks .lists .few))
+
+  module _ (mid : List ℕ) (r : Readied kind known limit es mid row (length hs - i)) where
+    pub entry-row : RowAsks kind limit (gapBefore gs i) (drop i hs) (drop i ws) (drop i gs) mid row
+    entry-row = rw (a .row-is) (row-asks hs ws gs i (a .within) kind known limit es mid (a .asks .room) (a .asks .lists .few) (a .rows-before) (rw (a .row-is) at r))
+
+    -- Both ways in which it is planned.
+    pub entry-stays : limit < known → getD heights i 0 ≤ limit → EntryDone kind known limit i hs ws gs widths heights ends mid
+    entry-stays lower keeps =
+        let d = rw (a .row-is) at (row-start limit (gapBefore gs i) row (drop i hs) (drop i ws) (drop i gs) kind mid entry-row) in
+        record {
+          behind = plan-stays lower keeps;
+          before = known-stays lower keeps;
+          rows-behind = rows-from hs ws gs i (a .within) kind known limit es mid mid (rw (a .row-is) at r) d (a .rows-behind);
+          rows-before = rows-to hs ws gs i (a .within) kind known limit es mid mid (rw (a .row-is) at r) d (a .rows-before);
+        }
+
+    pub entry-more : (new : List ℕ) (b : Best) → layoutIn b ≡ getD (layouts kind limit 0 (componentsIn hs ws gs)) i unmet → RowDone kind limit (gapBefore gs i) (drop i hs) (drop i ws) (drop i gs) mid new row
+        → EntryDone kind known limit i hs ws gs (set widths i (b .width .0)) (set heights i (b .height .0)) (set ends i (b .end)) new
+    entry-more new b f d = record {
+      behind = plan-more b f;
+      before = known-more b;
+      rows-behind = rows-from hs ws gs i (a .within) kind known limit es mid new (rw (a .row-is) at r) (rw (a .row-is) at d) (a .rows-behind);
+      rows-before = rows-to hs ws gs i (a .within) kind known limit es mid new (rw (a .row-is) at r) (rw (a .row-is) at d) (a .rows-before);
+    }

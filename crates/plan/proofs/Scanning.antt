@@ -16,7 +16,7 @@ use Rattle.terms.proofs.Order.{order}
 use Rattle.layout.specs.Layout.{Layout, unmet, groups, candidate, choice, layouts, layoutOf}
 use Rattle.plan.specs.declared.Best.{Best}
 use Rattle.plan.specs.declared.Sizes.{Sizes}
-use Rattle.plan.specs.Asks.{layoutIn, GroupAsks, Packed, mostRows, planRoom, SizesOf, restAt, FirstAsks, Under, bestTo}
+use Rattle.plan.specs.Asks.{layoutIn, GroupAsks, Packed, mostRows, SizesOf, restAt, FirstAsks, Under, bestTo}
 use Rattle.plan.proofs.Columns.{component-at, tall-more, widest-more}
 use Rattle.model.specs.Layout.{NoWorse, candidateFor}
 use Rattle.model.proofs.Choice.{no-wider, no-wider-nor-higher, Fair, fair-choice, Below, below-choice}
@@ -46,7 +46,7 @@ pub record Scanned (kind : Kind) (limit g0 bound : ℕ) (cs : List Component) (b
   pub low : rows ≤ 4000000
   pub widest-is : wide ≡ widest (take k cs)
 
-module _ {kind : Kind} {limit g0 : ℕ} {hs ws gs widths heights es : List ℕ} (a : FirstAsks kind limit g0 hs ws gs widths heights es) where
+module _ {kind : Kind} {limit g0 : ℕ} {hs ws gs widths heights : List ℕ} (a : FirstAsks kind limit g0 hs ws gs widths heights) where
   abbrev cs : List Component
   cs = componentsIn hs ws gs
 
@@ -59,10 +59,8 @@ module _ {kind : Kind} {limit g0 : ℕ} {hs ws gs widths heights es : List ℕ} 
     part = components-take hs ws gs (j + 1) (omega arith) ∙ ap (λ (z : ℕ). take z cs) (add-one j)
 
     pub group-asks : {best : Best} {rows wide : ℕ} → rows ≡ tall (take (suc j) (componentsIn hs ws gs)) → rows ≤ 4000000 → wide ≡ widest (take (suc j) (componentsIn hs ws gs)) → Fair (layoutIn best)
-        → (now : List ℕ) → length now ≡ length es
-        → GroupAsks kind limit g0 wide (take (j + 1) hs) (take (j + 1) ws) (take (j + 1) gs) best rest
-        × (Packed rows (take (j + 1) hs) (take (j + 1) ws) (take (j + 1) gs) × (planRoom kind ≤ length now))
-    group-asks t low w fair now n = (
+        → GroupAsks kind limit g0 wide (take (j + 1) hs) (take (j + 1) ws) (take (j + 1) gs) best rest × Packed rows (take (j + 1) hs) (take (j + 1) ws) (take (j + 1) gs)
+    group-asks t low w fair = (
       record {
         lists = lists-take (a .lists) (j + 1) (omega arith);
         some = omega (arith, length-take-le (j + 1) hs (omega arith));
@@ -72,7 +70,7 @@ module _ {kind : Kind} {limit g0 : ℕ} {hs ws gs widths heights es : List ℕ} 
         fair = fair;
         rest-width = omega (arith, ap (λ (z : Best). z .width .0) er, a .later .width-is j (omega (arith, long)), no-wider (layouts-fair (λ x. gap x) (candidateFor (groups kind) limit) g0 cs (suc j)));
       },
-      ((t ∙ ap tall (sym part), low), omega (arith, a .room)),
+      (t ∙ ap tall (sym part), low),
     )
 
     pub candidate-same : candidate kind limit g0 (componentsIn (take (j + 1) hs) (take (j + 1) ws) (take (j + 1) gs)) (layoutIn rest) (j + 1)
@@ -127,10 +125,8 @@ module _ {kind : Kind} {limit g0 : ℕ} {hs ws gs widths heights es : List ℕ} 
               let e : widest (take (suc k) cs) ≡ max (widest (take k cs)) (getD ws k 0) = rw (component-at hs ws gs k h) at (widest-more cs k (componentIn [] [] [] 0) (omega (arith, long))) in
               omega (arith, s .widest-is)
 
-          pub next-asks : (now : List ℕ) → length now ≡ length es
-              → GroupAsks kind limit g0 wider (take (k + 1) hs) (take (k + 1) ws) (take (k + 1) gs) best rest
-              × (Packed (rows + x) (take (k + 1) hs) (take (k + 1) ws) (take (k + 1) gs) × (planRoom kind ≤ length now))
-          next-asks now n = group-asks k h rest er rows-more (omega arith) wide-more (s .fair) now n
+          pub next-asks : GroupAsks kind limit g0 wider (take (k + 1) hs) (take (k + 1) ws) (take (k + 1) gs) best rest × Packed (rows + x) (take (k + 1) hs) (take (k + 1) ws) (take (k + 1) gs)
+          next-asks = group-asks k h rest er rows-more (omega arith) wide-more (s .fair)
 
           pub scan-more : (r : Best)
               → layoutIn r ≡ choice (candidate kind limit g0 (componentsIn (take (k + 1) hs) (take (k + 1) ws) (take (k + 1) gs)) (layoutIn rest) (k + 1)) (layoutIn best)
@@ -146,21 +142,8 @@ module _ {kind : Kind} {limit g0 : ℕ} {hs ws gs widths heights es : List ℕ} 
                 widest-is = wide-more;
               })
 
--- The table of one group is free between two searches.
-pub first-again : {kind : Kind} {limit g0 : ℕ} {hs ws gs widths heights es : List ℕ} → FirstAsks kind limit g0 hs ws gs widths heights es → (now : List ℕ) → length now ≡ length es → FirstAsks kind limit g0 hs ws gs widths heights now
-first-again a now n = record {
-  lists = a .lists;
-  some = a .some;
-  limit-most = a .limit-most;
-  before = a .before;
-  widths-long = a .widths-long;
-  heights-long = a .heights-long;
-  room = omega (arith, a .room);
-  later = a .later;
-}
-
 -- A layout with some first group bounds the best one.
-module _ {kind : Kind} {limit g0 : ℕ} {hs ws gs widths heights es : List ℕ} (a : FirstAsks kind limit g0 hs ws gs widths heights es) (k : ℕ) (some : 0 < k) (within : k ≤ length hs) (z : Sizes) (sizes : SizesOf hs ws k z)
+module _ {kind : Kind} {limit g0 : ℕ} {hs ws gs widths heights : List ℕ} (a : FirstAsks kind limit g0 hs ws gs widths heights) (k : ℕ) (some : 0 < k) (within : k ≤ length hs) (z : Sizes) (sizes : SizesOf hs ws k z)
     (rest : Best) (er : rest ≡ restAt widths heights (k - 1)) where
   abbrev start : Best
   start = record { width = record { 0 = none }; height = record { 0 = none }; end = 0 }
@@ -177,9 +160,8 @@ module _ {kind : Kind} {limit g0 : ℕ} {hs ws gs widths heights es : List ℕ} 
   wide-here : z .widest .0 ≡ widest (take (suc (k - 1)) (componentsIn hs ws gs))
   wide-here = rw next (sizes .widest-is gs)
 
-  pub bound-asks : (now : List ℕ) → length now ≡ length es
-      → GroupAsks kind limit g0 (z .widest .0) (take k hs) (take k ws) (take k gs) start rest × (Packed (z .tall .0) (take k hs) (take k ws) (take k gs) × (planRoom kind ≤ length now))
-  bound-asks now n = rw last at (group-asks a (k - 1) (omega arith) rest er {best = start} tall-here (sizes .low) wide-here (inr (refl, omega arith)) now n)
+  pub bound-asks : GroupAsks kind limit g0 (z .widest .0) (take k hs) (take k ws) (take k gs) start rest × Packed (z .tall .0) (take k hs) (take k ws) (take k gs)
+  bound-asks = rw last at (group-asks a (k - 1) (omega arith) rest er {best = start} tall-here (sizes .low) wide-here (inr (refl, omega arith)))
 
   pub bound-low : (b : Best) → layoutIn b ≡ choice (candidate kind limit g0 (componentsIn (take k hs) (take k ws) (take k gs)) (layoutIn rest) k) (layoutIn start) → b .width .0 ≤ none
   bound-low b e = no-wider (fair-step (candidate kind limit g0 (componentsIn (take k hs) (take k ws) (take k gs)) (layoutIn rest) k) (layoutIn start) (layoutIn b) e (inr (refl, omega arith)))

@@ -16,11 +16,13 @@ use Rattle.group.specs.Group.{none, gapAfter, widest, flatHeight, mayStand, lea
 use Rattle.terms.proofs.Order.{order}
 use Rattle.group.proofs.Ways.{SomeWay, suits, some-way}
 use Rattle.group.proofs.Falls.{apart-height}
-use Rattle.group_search.specs.Widths.{LowAsks, Narrow}
+use Rattle.group_search.specs.Widths.{Narrow}
+use Rattle.group_memory.specs.Memory.{MemoryAsks, Remembered}
 use Rattle.layout.specs.Layout.{Layout, groups, candidate, choice}
 use Rattle.layout.specs.Plan.{StackLists}
 use Rattle.plan.specs.declared.Best.{Best}
 use Rattle.plan.specs.Asks.{layoutIn, GroupAsks}
+use Rattle.plan.specs.Memory.{WordAsks, WordDone}
 use Rattle.plan.proofs.Columns.{component-at, gap-last, widest-most}
 use Rattle.model.proofs.Choice.{choice-unmet}
 use Rattle.model.proofs.Candidates.{candidate-is, group-unmet, skip-rest}
@@ -83,27 +85,30 @@ module _ {limit g0 wide : ℕ} {hs ws gs : List ℕ} {best rest : Best} (a : Gro
   abbrev w : ℕ
   w = leastWidth Nested g0 (componentsIn hs ws gs) limit
 
-  pub narrow-asks : (es : List ℕ) (rows last cap : ℕ) → 4225 ≤ length es → rows ≡ tall (componentsIn hs ws gs) → last ≡ getD gs (length hs - 1) 0 → wide ≤ cap → cap ≤ 2 * wide
-      → LowAsks g0 (rows + g0 + last) hs ws gs es limit wide wide cap
-  narrow-asks es rows last cap room t l c d = record {
-    asks = record {
+  module _ (es : List ℕ) (at : ℕ) (word : WordAsks Nested limit g0 hs ws gs es at) where
+    pub narrow-asks : (rows last cap : ℕ) → rows ≡ tall (componentsIn hs ws gs) → last ≡ getD gs (length hs - 1) 0 → wide ≤ cap → cap ≤ 2 * wide → MemoryAsks g0 (rows + g0 + last) hs ws gs es at limit wide cap
+    narrow-asks rows last cap t l c d = record {
       asks = record {
-        table = record { columns = record { same = a .lists .same-widths; low = a .lists .low; slim = a .lists .slim }; few = a .lists .few; room = omega arith };
-        some = a .some;
-        gaps-long = a .lists .same-gaps;
-        gaps-low = a .lists .near;
-        first-low = a .before;
+        asks = record {
+          table = record { columns = record { same = a .lists .same-widths; low = a .lists .low; slim = a .lists .slim }; few = a .lists .few; room = omega (arith, word .0, word .1) };
+          some = a .some;
+          gaps-long = a .lists .same-gaps;
+          gaps-low = a .lists .near;
+          first-low = a .before;
+        };
+        is-widest = a .widest-is;
+        from = c;
+        to = d;
+        limit-low = a .limit-most;
       };
-      is-widest = a .widest-is;
-      from = c;
-      to = d;
-      limit-low = a .limit-most;
-    };
-    is-flat = flat-is a rows last t l;
-    from = omega arith;
-    to = c;
-    over = λ c l u. absurd (omega arith);
-  }
+      is-flat = flat-is a rows last t l;
+      behind = word .0;
+      within = word .1;
+      holds = rw (a .widest-is) (word .2);
+    }
+
+    pub narrow-word : (new : List ℕ) → Remembered g0 hs ws gs es new at limit wide → WordDone Nested limit g0 hs ws gs es new at
+    narrow-word new r = rw (a .widest-is) at r
 
   -- From the width b on a layout with this rest is no better than the best one.
   module _ (b : ℕ) (from : (best .width .0 ≤ b) × (b ≤ best .width .0 → best .height .0 ≤ rest .height .0)) where

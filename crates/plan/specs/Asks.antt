@@ -1,6 +1,6 @@
 -- What the functions of this crate ask and promise each other. `PlanAsks`, `PlanDone`, `Plannable` and `bestAt` belong to
 -- what other crates call.
-use Prim.Native.Nat.{ℕ, zero, suc, _*_, _≤_, _<_}
+use Prim.Native.Nat.{ℕ, zero, suc, _+_, _*_, _≤_, _<_}
 use mathlib.Core.Path.{_≡_}
 use mathlib.Core.Logic.{_⊎_}
 use mathlib.Core.List.{List}
@@ -46,10 +46,11 @@ abbrev pub mostRows : Kind → ℕ → ℕ
 mostRows Apart limit = limit
 mostRows Nested limit = 2 * limit
 
--- What planning takes of a work buffer: nested the table of one group, apart nothing.
+-- What planning takes of a work buffer: nested the table of one group, and a word for each of the 2,080 groups that a stack
+-- of 64 components has; apart nothing.
 abbrev pub planRoom : Kind → ℕ
 planRoom Apart = 0
-planRoom Nested = cells
+planRoom Nested = cells + 2080
 
 -- The sizes of the first k components, whatever their gaps.
 pub record SizesAsk (hs ws : List ℕ) (k : ℕ) : Type 0 where
@@ -72,14 +73,13 @@ pub record Later (kind : Kind) (limit g0 : ℕ) (cs : List Component) (widths he
   pub width-is : (k : ℕ) → k < length cs → getD widths k 0 ≡ getD (layouts kind limit g0 cs) (suc k) unmet .width
   pub height-is : (k : ℕ) → k < length cs → getD heights k 0 ≡ getD (layouts kind limit g0 cs) (suc k) unmet .height
 
-pub record FirstAsks (kind : Kind) (limit g0 : ℕ) (hs ws gs widths heights es : List ℕ) : Type 0 where
+pub record FirstAsks (kind : Kind) (limit g0 : ℕ) (hs ws gs widths heights : List ℕ) : Type 0 where
   pub lists : StackLists kind hs ws gs
   pub some : 0 < length hs
   pub limit-most : limit ≤ mostLimit
   pub before : g0 ≤ mostSize
   pub widths-long : length hs ≤ length widths
   pub heights-long : length hs ≤ length heights
-  pub room : planRoom kind ≤ length es
   pub later : Later kind limit g0 (componentsIn hs ws gs) widths heights
 
 -- A width that the best layout stays under, if there is one.
@@ -91,13 +91,12 @@ abbrev pub bestTo : Kind → ℕ → ℕ → List Component → ℕ → Layout
 bestTo kind limit g0 cs k = scan kind limit g0 cs (drop 1 (layouts kind limit g0 cs)) k
 
 -- The lists hold the best layouts behind more than i components.
-pub record FromAsks (kind : Kind) (limit i : ℕ) (hs ws gs widths heights es : List ℕ) : Type 0 where
+pub record FromAsks (kind : Kind) (limit i : ℕ) (hs ws gs widths heights : List ℕ) : Type 0 where
   pub lists : StackLists kind hs ws gs
   pub within : i < length hs
   pub limit-most : limit ≤ mostLimit
   pub widths-long : length hs < length widths
   pub heights-long : length hs < length heights
-  pub room : planRoom kind ≤ length es
   pub width-is : (j : ℕ) → i < j → j ≤ length hs → getD widths j 0 ≡ getD (layouts kind limit 0 (componentsIn hs ws gs)) j unmet .width
   pub height-is : (j : ℕ) → i < j → j ≤ length hs → getD heights j 0 ≡ getD (layouts kind limit 0 (componentsIn hs ws gs)) j unmet .height
 
@@ -122,17 +121,6 @@ pub record PlannedFrom (kind : Kind) (limit : ℕ) (cs : List Component) (widths
 -- Where the limit is under `known`, the lists are right for `known` in front of i.
 pub record KnownTo (kind : Kind) (known limit : ℕ) (cs : List Component) (widths heights ends : List ℕ) (i : ℕ) : Type 0 where
   pub at : limit < known → (j : ℕ) → j < i → PlannedAt (getD (layouts kind known 0 cs) j unmet) (getD widths j 0) (getD heights j 0) (getD ends j 0)
-
--- The lists before and behind i, and i itself still to be planned.
-pub record EntryAsks (kind : Kind) (known limit i : ℕ) (hs ws gs widths heights ends es : List ℕ) : Type 0 where
-  pub asks : PlanAsks kind limit hs ws gs widths heights ends es
-  pub within : i < length hs
-  pub behind : PlannedFrom kind limit (componentsIn hs ws gs) widths heights ends (suc i)
-  pub before : KnownTo kind known limit (componentsIn hs ws gs) widths heights ends (suc i)
-
--- The lists hold a plan for `known`, if that is over the limit.
-abbrev pub Known : Kind → ℕ → ℕ → List Component → List ℕ → List ℕ → List ℕ → Type 0
-Known kind known limit cs widths heights ends = limit < known → Planned kind known 0 cs widths heights ends
 
 -- A stack in three lists, with room to plan it.
 pub record Plannable (kind : Kind) (hs ws gs work : List ℕ) : Type 0 where

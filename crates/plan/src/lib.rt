@@ -2,17 +2,21 @@
 ghost use mathlib.Core.Bool.{true};
 ghost use mathlib.Core.Path.{_≡_};
 ghost use Prim.Native.Nat.{_+_, _*_, _≤_, _<_};
-ghost use lib.ListN.{length, getD, take};
+ghost use lib.ListN.{length, getD, take, drop};
+ghost use Rattle.numbers.specs.Table.{cells};
 ghost use Rattle.terms.specs.Numbers.{mostApart, mostLimit};
 ghost use Rattle.terms.specs.declared.Kind.the-variants.{Apart, Nested};
 ghost use Rattle.terms.specs.Component.{componentsIn};
 ghost use Rattle.group.specs.Group.{none};
 ghost use Rattle.layout.specs.Layout.{better, choice, unmet, layouts, layoutOf};
 ghost use Rattle.plan.specs.Asks.{layoutIn, GroupAsks, Packed, tried, mostRows, restAt, FirstAsks, Under, SizesAsk, SizesOf};
-ghost use Rattle.plan.specs.Asks.{FromAsks, PlanAsks, PlannedFrom, PlanDone, gapBefore, planRoom};
-ghost use Rattle.plan.specs.Asks.{Known, KnownTo, EntryAsks, Plannable, bestAt};
+ghost use Rattle.plan.specs.Asks.{FromAsks, PlanAsks, PlanDone, gapBefore, planRoom};
+ghost use Rattle.plan.specs.Asks.{Plannable, bestAt};
+ghost use Rattle.plan.specs.Memory.{WordAsks, WordDone, RowAsks, RowDone, Forgotten, RowRoom, Readied};
+ghost use Rattle.plan.specs.Memory.{EntryAsks, EntryDone, Known, Memory, mostRow};
 use folding::Outline;
 use group::NONE;
+use group_memory::NOTHING;
 use numbers::CELLS;
 use numbers::larger;
 use numbers::lesser;
@@ -34,6 +38,9 @@ struct Sizes {
     tall: Rows,
     widest: Slices,
 }
+
+// The groups of a stack of 64 components: as many as there are pairs of a first and a last one.
+const GROUPS: usize = 2080;
 
 // One more than a stack may have components.
 pub const LISTED: usize = MOST_APART + 1;
@@ -128,7 +135,7 @@ fn too_wide(best: Best, rest: Best) -> Slices
 }
 
 // A group with the fold that makes it narrowest in front of the rest. A group that is too wide to improve the best layout
-// need not be searched.
+// need not be searched. The group's word stands at `at`.
 fn try_folds(
     limit: Rows,
     g0: Rows,
@@ -139,14 +146,17 @@ fn try_folds(
     g: &[u16],
     best: Best,
     rest: Best,
+    at: usize,
     work: &mut [u32],
 ) -> Best
     requires { ⌜ GroupAsks Nested (limit .0) (g0 .0) (widest .0) (now h) (now w) (now g) best rest ⌝ }
     requires { ⌜ Packed (tall .0) (now h) (now w) (now g) ⌝ }
-    requires { ⌜ planRoom Nested ≤ length (now work) ⌝ }
+    requires { ⌜ WordAsks Nested (limit .0) (g0 .0) (now h) (now w) (now g) (now work) at ⌝ }
     ensures { λ r. ⌜ layoutIn r
         ≡ tried Nested (limit .0) (g0 .0) (length (now (h .entry)))
         (now (h .entry)) (now (w .entry)) (now (g .entry)) best rest ⌝ }
+    ensures { λ r. ⌜ WordDone Nested (limit .0) (g0 .0) (now (h .entry)) (now (w .entry)) (now (g .entry))
+        (now (work .entry)) (now (work .exit)) at ⌝ }
 {
     if NONE <= rest.width.0 {
         return best;
@@ -158,7 +168,7 @@ fn try_folds(
     let cap = Slices(lesser(2 * widest.0, bound.0 - 1 - rest.width.0));
     let k = h.len();
     let flat = Rows(tall.0 + g0.0 + wide(g[k - 1]));
-    let n = group_search::narrowest(g0, flat, h, w, g, work, limit, widest, widest, cap);
+    let n = group_memory::narrowest(g0, flat, h, w, g, work, at, limit, widest, cap);
     if NONE <= n.width.0 {
         return best;
     }
@@ -183,18 +193,21 @@ fn try_group(
     g: &[u16],
     best: Best,
     rest: Best,
+    at: usize,
     work: &mut [u32],
 ) -> Best
     requires { ⌜ GroupAsks kind (limit .0) (g0 .0) (widest .0) (now h) (now w) (now g) best rest ⌝ }
     requires { ⌜ Packed (tall .0) (now h) (now w) (now g) ⌝ }
-    requires { ⌜ planRoom kind ≤ length (now work) ⌝ }
+    requires { ⌜ WordAsks kind (limit .0) (g0 .0) (now h) (now w) (now g) (now work) at ⌝ }
     ensures { λ r. ⌜ layoutIn r
         ≡ tried kind (limit .0) (g0 .0) (length (now (h .entry)))
         (now (h .entry)) (now (w .entry)) (now (g .entry)) best rest ⌝ }
+    ensures { λ r. ⌜ WordDone kind (limit .0) (g0 .0) (now (h .entry)) (now (w .entry)) (now (g .entry))
+        (now (work .entry)) (now (work .exit)) at ⌝ }
 {
     match kind {
         Kind::Apart => try_flat(limit, g0, tall, widest, h, w, g, best, rest),
-        Kind::Nested => try_folds(limit, g0, tall, widest, h, w, g, best, rest, work),
+        Kind::Nested => try_folds(limit, g0, tall, widest, h, w, g, best, rest, at, work),
     }
 }
 
@@ -211,15 +224,19 @@ fn try_first(
     g: &[u16],
     best: Best,
     rest: Best,
+    at: usize,
     work: &mut [u32],
 ) -> Best
     requires { ⌜ GroupAsks kind (limit .0) (g0 .0) (widest .0)
         (take k (now h)) (take k (now w)) (take k (now g)) best rest ⌝ }
     requires { ⌜ Packed (tall .0) (take k (now h)) (take k (now w)) (take k (now g)) ⌝ }
-    requires { ⌜ planRoom kind ≤ length (now work) ⌝ }
+    requires { ⌜ WordAsks kind (limit .0) (g0 .0) (take k (now h)) (take k (now w)) (take k (now g)) (now work) at ⌝ }
     requires { ⌜ (k ≤ length (now h)) × (k ≤ length (now w)) × (k ≤ length (now g)) ⌝ }
     ensures { λ r. ⌜ layoutIn r ≡ tried kind (limit .0) (g0 .0) k
         (take k (now (h .entry))) (take k (now (w .entry))) (take k (now (g .entry))) best rest ⌝ }
+    ensures { λ r. ⌜ WordDone kind (limit .0) (g0 .0)
+        (take k (now (h .entry))) (take k (now (w .entry))) (take k (now (g .entry)))
+        (now (work .entry)) (now (work .exit)) at ⌝ }
 {
     try_group(
         kind,
@@ -232,6 +249,7 @@ fn try_first(
         &g[..k],
         best,
         rest,
+        at,
         work,
     )
 }
@@ -279,11 +297,16 @@ fn bound_by(
     g: &[u16],
     widths: &[u32],
     heights: &[u32],
+    row: usize,
     work: &mut [u32],
 ) -> Slices
-    requires { ⌜ FirstAsks kind (limit .0) (g0 .0) (now h) (now w) (now g) (now widths) (now heights) (now work) ⌝ }
+    requires { ⌜ FirstAsks kind (limit .0) (g0 .0) (now h) (now w) (now g) (now widths) (now heights) ⌝ }
+    requires { ⌜ RowAsks kind (limit .0) (g0 .0) (now h) (now w) (now g) (now work) row ⌝ }
+    requires { ⌜ row ≤ mostRow ⌝ }
     ensures { λ r. ⌜ Under kind (limit .0) (g0 .0)
         (componentsIn (now (h .entry)) (now (w .entry)) (now (g .entry))) (r .0) ⌝ }
+    ensures { λ r. ⌜ RowDone kind (limit .0) (g0 .0) (now (h .entry)) (now (w .entry)) (now (g .entry))
+        (now (work .entry)) (now (work .exit)) row ⌝ }
 {
     if k == 0 {
         return Slices(NONE);
@@ -292,12 +315,14 @@ fn bound_by(
         return Slices(NONE);
     }
     let s = sizes_of(h, w, k);
-    let rest = rest_at(widths, heights, k - 1);
+    let last = k - 1;
+    let rest = rest_at(widths, heights, last);
     let none = Best {
         width: Slices(NONE),
         height: Rows(NONE),
         end: 0,
     };
+    let at = row + last;
     let b = try_first(
         kind,
         limit,
@@ -310,6 +335,7 @@ fn bound_by(
         g,
         none,
         rest,
+        at,
         work,
     );
     Slices(lesser(NONE, b.width.0 + 1))
@@ -327,12 +353,17 @@ fn first_group(
     g: &[u16],
     widths: &[u32],
     heights: &[u32],
+    row: usize,
     work: &mut [u32],
 ) -> Best
-    requires { ⌜ FirstAsks kind (limit .0) (g0 .0) (now h) (now w) (now g) (now widths) (now heights) (now work) ⌝ }
+    requires { ⌜ FirstAsks kind (limit .0) (g0 .0) (now h) (now w) (now g) (now widths) (now heights) ⌝ }
+    requires { ⌜ RowAsks kind (limit .0) (g0 .0) (now h) (now w) (now g) (now work) row ⌝ }
     requires { ⌜ Under kind (limit .0) (g0 .0) (componentsIn (now h) (now w) (now g)) (bound .0) ⌝ }
+    requires { ⌜ row ≤ mostRow ⌝ }
     ensures { λ r. ⌜ layoutIn r
         ≡ layoutOf kind (limit .0) (g0 .0) (componentsIn (now (h .entry)) (now (w .entry)) (now (g .entry))) ⌝ }
+    ensures { λ r. ⌜ RowDone kind (limit .0) (g0 .0) (now (h .entry)) (now (w .entry)) (now (g .entry))
+        (now (work .entry)) (now (work .exit)) row ⌝ }
 {
     let n = h.len();
     let most = most_rows(kind, limit);
@@ -351,6 +382,7 @@ fn first_group(
         }
         widest = larger(widest, wide(w[k]));
         let rest = rest_at(widths, heights, k);
+        let at = row + k;
         k += 1;
         best = try_first(
             kind,
@@ -364,6 +396,7 @@ fn first_group(
             g,
             best,
             rest,
+            at,
             work,
         );
     }
@@ -381,14 +414,19 @@ fn likely_first(
     g: &[u16],
     widths: &[u32],
     heights: &[u32],
+    row: usize,
     work: &mut [u32],
 ) -> Best
-    requires { ⌜ FirstAsks kind (limit .0) (g0 .0) (now h) (now w) (now g) (now widths) (now heights) (now work) ⌝ }
+    requires { ⌜ FirstAsks kind (limit .0) (g0 .0) (now h) (now w) (now g) (now widths) (now heights) ⌝ }
+    requires { ⌜ RowAsks kind (limit .0) (g0 .0) (now h) (now w) (now g) (now work) row ⌝ }
+    requires { ⌜ row ≤ mostRow ⌝ }
     ensures { λ r. ⌜ layoutIn r
         ≡ layoutOf kind (limit .0) (g0 .0) (componentsIn (now (h .entry)) (now (w .entry)) (now (g .entry))) ⌝ }
+    ensures { λ r. ⌜ RowDone kind (limit .0) (g0 .0) (now (h .entry)) (now (w .entry)) (now (g .entry))
+        (now (work .entry)) (now (work .exit)) row ⌝ }
 {
-    let bound = bound_by(kind, limit, g0, k, h, w, g, widths, heights, work);
-    first_group(kind, limit, g0, bound, h, w, g, widths, heights, work)
+    let bound = bound_by(kind, limit, g0, k, h, w, g, widths, heights, row, work);
+    first_group(kind, limit, g0, bound, h, w, g, widths, heights, row, work)
 }
 
 // How many components a likely first group has: nested it ends where that of the next component ends. Apart no group is
@@ -422,11 +460,18 @@ fn best_from(
     widths: &[u32],
     heights: &[u32],
     next_end: u32,
+    row: usize,
     work: &mut [u32],
 ) -> Best
-    requires { ⌜ FromAsks kind (limit .0) i (now h) (now w) (now g) (now widths) (now heights) (now work) ⌝ }
+    requires { ⌜ FromAsks kind (limit .0) i (now h) (now w) (now g) (now widths) (now heights) ⌝ }
+    requires { ⌜ RowAsks kind (limit .0) (gapBefore (now g) i)
+        (drop i (now h)) (drop i (now w)) (drop i (now g)) (now work) row ⌝ }
+    requires { ⌜ row ≤ mostRow ⌝ }
     ensures { λ r. ⌜ layoutIn r
         ≡ getD (layouts kind (limit .0) 0 (componentsIn (now (h .entry)) (now (w .entry)) (now (g .entry)))) i unmet ⌝ }
+    ensures { λ r. ⌜ RowDone kind (limit .0) (gapBefore (now (g .entry)) i)
+        (drop i (now (h .entry))) (drop i (now (w .entry))) (drop i (now (g .entry)))
+        (now (work .entry)) (now (work .exit)) row ⌝ }
 {
     let next = i + 1;
     likely_first(
@@ -439,6 +484,7 @@ fn best_from(
         &g[i..],
         &widths[next..],
         &heights[next..],
+        row,
         work,
     )
 }
@@ -449,7 +495,7 @@ pub fn room(kind: Kind) -> usize
 {
     match kind {
         Kind::Apart => 0,
-        Kind::Nested => CELLS,
+        Kind::Nested => CELLS + GROUPS,
     }
 }
 
@@ -464,12 +510,39 @@ fn stays(known: Rows, limit: Rows, height: u32) -> bool
     height <= limit.0
 }
 
-// The best layout of what is left behind i components, in the three lists.
+// The `count` words from `row` on say nothing.
+fn forget(row: usize, count: usize, work: &mut [u32])
+    requires { ⌜ (cells ≤ row) × (row + count ≤ length (now work)) ⌝ }
+    ensures { λ _. ⌜ Forgotten (now (work .entry)) (now (work .exit)) row count ⌝ }
+{
+    let mut k = 0;
+    while k < count {
+        work[row + k] = NOTHING;
+        k += 1;
+    }
+}
+
+// What is remembered for a higher limit serves a lower one, and no other.
+fn ready_row(kind: Kind, known: Rows, limit: Rows, row: usize, count: usize, work: &mut [u32])
+    requires { ⌜ RowRoom kind row count (now work) ⌝ }
+    ensures { λ _. ⌜ Readied kind (known .0) (limit .0) (now (work .entry)) (now (work .exit)) row count ⌝ }
+{
+    if limit.0 < known.0 {
+        return;
+    }
+    match kind {
+        Kind::Apart => {}
+        Kind::Nested => forget(row, count, work),
+    }
+}
+
+// The best layout of what is left behind i components, in the three lists. The words of its first groups stand in the row.
 fn plan_at(
     kind: Kind,
     known: Rows,
     limit: Rows,
     i: usize,
+    row: usize,
     h: &[u16],
     w: &[u16],
     g: &[u16],
@@ -478,26 +551,36 @@ fn plan_at(
     ends: &mut [u32],
     work: &mut [u32],
 )
-    requires { ⌜ EntryAsks kind (known .0) (limit .0) i
+    requires { ⌜ EntryAsks kind (known .0) (limit .0) i row
         (now h) (now w) (now g) (now widths) (now heights) (now ends) (now work) ⌝ }
-    ensures { λ _. ⌜ PlannedFrom kind (limit .0) (componentsIn (now (h .entry)) (now (w .entry)) (now (g .entry)))
-        (now (widths .exit)) (now (heights .exit)) (now (ends .exit)) i ⌝ }
-    ensures { λ _. ⌜ KnownTo kind (known .0) (limit .0)
-        (componentsIn (now (h .entry)) (now (w .entry)) (now (g .entry)))
-        (now (widths .exit)) (now (heights .exit)) (now (ends .exit)) i ⌝ }
+    ensures { λ _. ⌜ EntryDone kind (known .0) (limit .0) i (now (h .entry)) (now (w .entry)) (now (g .entry))
+        (now (widths .exit)) (now (heights .exit)) (now (ends .exit)) (now (work .exit)) ⌝ }
 {
+    ready_row(kind, known, limit, row, h.len() - i, work);
     if stays(known, limit, heights[i]) {
         return;
     }
     let next_end = ends[i + 1];
-    let b = best_from(kind, limit, i, h, w, g, widths, heights, next_end, work);
+    let b = best_from(
+        kind,
+        limit,
+        i,
+        h,
+        w,
+        g,
+        widths,
+        heights,
+        next_end,
+        row,
+        work,
+    );
     widths[i] = b.width.0;
     heights[i] = b.height.0;
     ends[i] = b.end;
 }
 
-// The same as `plan`, where the lists hold a plan for the limit `known`: if that is higher, what of it keeps the limit is
-// not searched again.
+// The same as `plan`, where the lists hold a plan for the limit `known` and the work buffer what is remembered of its groups:
+// if that limit is higher, what of it keeps the limit is not searched again.
 pub fn replan(
     kind: Kind,
     known: Rows,
@@ -512,18 +595,35 @@ pub fn replan(
 ) -> Outline
     requires { ⌜ PlanAsks kind (limit .0)
         (now h) (now w) (now g) (now widths) (now heights) (now ends) (now work) ⌝ }
-    requires { ⌜ Known kind (known .0) (limit .0) (componentsIn (now h) (now w) (now g))
-        (now widths) (now heights) (now ends) ⌝ }
+    requires { ⌜ Known kind (known .0) (limit .0) (now h) (now w) (now g)
+        (now widths) (now heights) (now ends) (now work) ⌝ }
     ensures { λ r. ⌜ PlanDone kind (limit .0) (componentsIn (now (h .entry)) (now (w .entry)) (now (g .entry)))
         (now (widths .exit)) (now (heights .exit)) (now (ends .exit)) r ⌝ }
+    ensures { λ r. ⌜ Memory kind (limit .0) (now (h .entry)) (now (w .entry)) (now (g .entry)) (now (work .exit)) ⌝ }
 {
-    let mut i = h.len();
+    let n = h.len();
+    let mut i = n;
+    let mut row = CELLS;
     widths[i] = 0;
     heights[i] = 0;
     ends[i] = 0;
     while 0 < i {
         i -= 1;
-        plan_at(kind, known, limit, i, h, w, g, widths, heights, ends, work);
+        plan_at(
+            kind,
+            known,
+            limit,
+            i,
+            row,
+            h,
+            w,
+            g,
+            widths,
+            heights,
+            ends,
+            work,
+        );
+        row += n - i;
     }
     Outline {
         width: Slices(widths[0]),

@@ -1,10 +1,10 @@
-use lib.ListN.{take}
-use Rattle.terms.specs.Component.{componentsIn}
-use Rattle.plan.specs.Asks.{layoutIn}
-use Rattle.plan.proofs.Trying.{first-tried}
-use lib.Seq.{length-take-le}
-use mathlib.Core.Path.{sym}
 use denote.Ref.{now}
+use mathlib.Core.Path.{sym}
+use lib.Seq.{length-take-le}
+use Rattle.plan.proofs.Trying.{first-tried}
+use Rattle.plan.specs.Asks.{layoutIn}
+use Rattle.terms.specs.Component.{componentsIn}
+use lib.ListN.{take}
 use borrow.Author.Needs.{needs}
 use Rattle.plan.proofs.try_first.Statement.{statement}
 use Rattle.plan.proofs.try_first.Tie as tie
@@ -25,7 +25,7 @@ same-length : tie.Need-same-length
 same-length c = search needs
 
 returns : tie.Need-returns
-returns c = first-tried (c .before .before .before .before .before .before .before .before .before .before .before .args .kind) (c .before .before .before .before .before .before .before .before .before .before .before .args .limit .0) (c .before .before .before .before .before .before .before .before .before .before .before .args .g0 .0) (c .before .before .before .before .before .before .before .before .before .before .before .args .k) (now (c .before .before .before .before .before .before .before .before .before .before .before .args .h)) (componentsIn (take (c .before .before .before .before .before .before .before .before .before .before .before .args .k) (now (c .before .before .before .before .before .before .before .before .before .before .before .args .h))) (take (c .before .before .before .before .before .before .before .before .before .before .before .args .k) (now (c .before .before .before .before .before .before .before .before .before .before .before .args .w))) (take (c .before .before .before .before .before .before .before .before .before .before .before .args .k) (now (c .before .before .before .before .before .before .before .before .before .before .before .args .g)))) (layoutIn (c .before .before .before .before .before .before .before .before .before .before .before .args .rest)) (layoutIn (c .before .before .before .before .before .before .before .before .before .before .before .args .best)) _ (c .before .before .before .before .before .before .before .before .before .before .before .pre .1 .1 .1 .0) (c .before .before .try-group .ensures)
+returns c = (first-tried (c .before .before .before .before .before .before .before .before .before .before .before .args .kind) (c .before .before .before .before .before .before .before .before .before .before .before .args .limit .0) (c .before .before .before .before .before .before .before .before .before .before .before .args .g0 .0) (c .before .before .before .before .before .before .before .before .before .before .before .args .k) (now (c .before .before .before .before .before .before .before .before .before .before .before .args .h)) (componentsIn (take (c .before .before .before .before .before .before .before .before .before .before .before .args .k) (now (c .before .before .before .before .before .before .before .before .before .before .before .args .h))) (take (c .before .before .before .before .before .before .before .before .before .before .before .args .k) (now (c .before .before .before .before .before .before .before .before .before .before .before .args .w))) (take (c .before .before .before .before .before .before .before .before .before .before .before .args .k) (now (c .before .before .before .before .before .before .before .before .before .before .before .args .g)))) (layoutIn (c .before .before .before .before .before .before .before .before .before .before .before .args .rest)) (layoutIn (c .before .before .before .before .before .before .before .before .before .before .before .args .best)) _ (c .before .before .before .before .before .before .before .before .before .before .before .pre .1 .1 .1 .0) (c .before .before .try-group .ensures .0), c .before .before .try-group .ensures .1)
 
 pub try-first-spec : {M : Type 1} → statement M
 try-first-spec =

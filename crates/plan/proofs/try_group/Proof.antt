@@ -15,7 +15,7 @@ try-folds-requires : tie.Need-try-folds-requires
 try-folds-requires c κs = (rw (c .before .enum-told2 .given .1) at (c .before .before .before .before .before .before .before .pre .0), (c .before .before .before .before .before .before .before .pre .1 .0, rw (c .before .enum-told2 .given .1) at (c .before .before .before .before .before .before .before .pre .1 .1)))
 
 returns : tie.Need-returns
-returns c = rw (c .before .enum-told .given .1) (c .try-flat .ensures)
+returns c = rw (c .before .enum-told .given .1) (c .try-flat .ensures, tt)
 
 same-length : tie.Need-same-length
 same-length c = search needs
