@@ -15,7 +15,8 @@ use Rattle.group.specs.Group.{none, widest, flatHeight}
 use Rattle.layout.specs.Layout.{layoutOf}
 use Rattle.layout.specs.Plan.{StackLists}
 use Rattle.layout.proofs.Folds.{Folds}
-use Rattle.plan.specs.Asks.{Plannable, PlanAsks, Known, bestAt}
+use Rattle.plan.specs.Asks.{Plannable, PlanAsks, bestAt}
+use Rattle.plan.specs.Memory.{Known}
 use Rattle.fold.specs.declared.Flat.{Flat}
 use Rattle.fold.specs.declared.Least.{Least}
 use Rattle.fold.specs.Calls.{foldChecks, Answered}
@@ -32,10 +33,10 @@ pub record FirstLists (kind : Kind) (n : ℕ) (hs ws gs : List ℕ) : Type 0 whe
 abbrev pub Foldable : Kind → ℕ → List ℕ → List ℕ → List ℕ → List ℕ → List ℕ → Type 0
 Foldable kind limit hs ws gs out work = Plannable kind hs ws gs work × (limit ≤ mostLimit) × (3 * length hs ≤ length out)
 
--- With three lists for its plan, which hold one for `known` if that is over the limit.
+-- With three lists for its plan, which with the work buffer hold one for `known` if that is over the limit.
 abbrev pub Replannable : Kind → ℕ → ℕ → List ℕ → List ℕ → List ℕ → List ℕ → List ℕ → List ℕ → List ℕ → Type 0
 Replannable kind known limit hs ws gs widths heights ends work =
-    PlanAsks kind limit hs ws gs widths heights ends work × Known kind known limit (componentsIn hs ws gs) widths heights ends
+    PlanAsks kind limit hs ws gs widths heights ends work × Known kind known limit hs ws gs widths heights ends work
 
 -- What a fold call answers for the stack in the first n entries of three lists: its checks behind the file's own refusals,
 -- and then the search.
@@ -73,10 +74,10 @@ pub record LeastAsks (kind : Kind) (hs ws gs widths heights ends work : List ℕ
   pub w-most : w ≤ mostLimit
   pub between : Between kind (componentsIn hs ws gs) w 1 top
 
--- What it finds. The lists hold a plan if `known` is not 0.
-pub record LeastFound (kind : Kind) (cs : List Component) (widths heights ends : List ℕ) (w : ℕ) (least : Least) : Type 0 where
-  pub least-for : LeastFor kind cs w (least .limit .0)
-  pub held : Known kind (least .known .0) 0 cs widths heights ends
+-- What it finds. The lists and the work buffer hold a plan if `known` is not 0.
+pub record LeastFound (kind : Kind) (hs ws gs widths heights ends work : List ℕ) (w : ℕ) (least : Least) : Type 0 where
+  pub least-for : LeastFor kind (componentsIn hs ws gs) w (least .limit .0)
+  pub held : Known kind (least .known .0) 0 hs ws gs widths heights ends work
 
 -- No stack has more rows times slices in its components.
 abbrev pub mostArea : ℕ

@@ -260,8 +260,8 @@ fn least_height(
 ) -> Least
     requires { ⌜ LeastAsks kind
         (now h) (now w) (now g) (now widths) (now heights) (now ends) (now work) (most .0) (top .0) ⌝ }
-    ensures { λ r. ⌜ LeastFound kind (componentsIn (now (h .entry)) (now (w .entry)) (now (g .entry)))
-        (now (widths .exit)) (now (heights .exit)) (now (ends .exit)) (most .0) r ⌝ }
+    ensures { λ r. ⌜ LeastFound kind (now (h .entry)) (now (w .entry)) (now (g .entry))
+        (now (widths .exit)) (now (heights .exit)) (now (ends .exit)) (now (work .exit)) (most .0) r ⌝ }
 {
     let mut lo = 1;
     let mut hi = top.0;

@@ -26,6 +26,7 @@ use Rattle.layout.specs.Layout.{layoutOf}
 use Rattle.layout.proofs.Foldings.{search}
 use Rattle.layout.proofs.Table.{table}
 use Rattle.plan.specs.Asks.{planRoom, PlanAsks, Plannable, bestAt}
+use Rattle.plan.specs.Memory.{Memory}
 use Rattle.fold.specs.Calls.{workCheck}
 use Rattle.fold.specs.Inner.{FirstLists}
 use Rattle.fold.proofs.Held.{stacked}
@@ -61,6 +62,12 @@ module _ (new put : List ℕ) (at a b : ℕ) (fits : at + 2 ≤ length new) (p :
 
   put-long : length put ≡ length new
   put-long = ap length parts ∙ omega (arith, length-append (take at new ++ (a ∷ b ∷ [])) (drop (at + 2) new), front-long, length-drop (at + 2) new)
+
+take-front : (from at : ℕ) (l m : List ℕ) → from ≤ at → at ≤ length l → take from (take at l ++ m) ≡ take from l
+take-front zero at l m h k = refl
+take-front (suc from) zero l m h k = absurd (omega arith)
+take-front (suc from) (suc at) [] m h k = absurd (omega arith)
+take-front (suc from) (suc at) (x ∷ l) m h k = ap (λ (z : List ℕ). x ∷ z) (take-front from at l m (omega arith) (omega arith))
 
 -- The same behind the first `from` numbers.
 pair-behind : (l : List ℕ) (from at a b : ℕ) → from + at + 2 ≤ length l → drop from (take (from + at) l ++ (a ∷ b ∷ drop (from + at + 2) l)) ≡ take at (drop from l) ++ (a ∷ b ∷ drop (at + 2) (drop from l))
@@ -101,6 +108,23 @@ gather-plans kind cs old part from limit n l h g = record {
       let e : drop from (part ++ drop from old) ≡ drop from old = ap (λ (i : ℕ). drop i (part ++ drop from old)) (sym l) ∙ drop-append-seam part (drop from old) in
       rw e (g .waiting (omega (arith, length-append part (drop from old), length-drop from old)));
 }
+
+-- A pair that is kept behind `from` leaves what is in front as it was, and so what is remembered there.
+module _ (part rest new : List ℕ) (from at : ℕ) (o : Outline) (l : length part ≡ from) (h : from ≤ at) (k : PairKept at o (part ++ rest) new) where
+  front : take from (part ++ rest) ≡ part
+  front = take-at part rest from l
+
+  pub front-same : take from new ≡ part
+  front-same = go (order (at + 2) (length (part ++ rest)))
+    where
+      go : (at + 2 ≤ length (part ++ rest)) ⊎ (length (part ++ rest) < at + 2) → take from new ≡ part
+      go (inl f) =
+          ap (λ (z : List ℕ). take from z) (k .put f)
+          ∙ take-front from at (part ++ rest) (o .width .0 ∷ o .height .0 ∷ drop (at + 2) (part ++ rest)) h (omega arith) ∙ front
+      go (inr f) = ap (λ (z : List ℕ). take from z) (k .full f) ∙ front
+
+  pub front-memory : (kind : Kind) (limit : ℕ) (hs ws gs : List ℕ) → Memory kind limit hs ws gs part → Memory kind limit hs ws gs (take from new)
+  front-memory kind limit hs ws gs m = rw front-same m
 
 pub room-part : (kind : Kind) (work : List ℕ) (from : ℕ) → from ≡ planRoom kind → planRoom kind ≤ length work → planRoom kind ≤ length (take from work)
 room-part kind work from e h = omega (arith, length-take-le from work (omega arith))

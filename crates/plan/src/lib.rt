@@ -11,7 +11,6 @@ ghost use Rattle.group.specs.Group.{none};
 ghost use Rattle.layout.specs.Layout.{better, choice, unmet, layouts, layoutOf};
 ghost use Rattle.plan.specs.Asks.{layoutIn, GroupAsks, Packed, tried, mostRows, restAt, FirstAsks, Under, SizesAsk, SizesOf};
 ghost use Rattle.plan.specs.Asks.{FromAsks, PlanAsks, PlanDone, gapBefore, planRoom};
-ghost use Rattle.plan.specs.Asks.{Plannable, bestAt};
 ghost use Rattle.plan.specs.Memory.{WordAsks, WordDone, RowAsks, RowDone, Forgotten, RowRoom, Readied};
 ghost use Rattle.plan.specs.Memory.{EntryAsks, EntryDone, Known, Memory, mostRow};
 use folding::Outline;
@@ -650,24 +649,4 @@ pub fn plan(
         (now (widths .exit)) (now (heights .exit)) (now (ends .exit)) r ⌝ }
 {
     replan(kind, Rows(0), limit, h, w, g, widths, heights, ends, work)
-}
-
-// The outline of the best layout for a height. A width of NONE means that there is none. The content of the work buffer is
-// free afterwards.
-pub fn outline_at(
-    kind: Kind,
-    limit: Rows,
-    h: &[u16],
-    w: &[u16],
-    g: &[u16],
-    work: &mut [u32],
-) -> Outline
-    requires { ⌜ Plannable kind (now h) (now w) (now g) (now work) × (limit .0 ≤ mostLimit) ⌝ }
-    ensures { λ r. ⌜ r
-        ≡ bestAt kind (limit .0) (componentsIn (now (h .entry)) (now (w .entry)) (now (g .entry))) ⌝ }
-{
-    let mut wide = [0u32; LISTED];
-    let mut high = [0u32; LISTED];
-    let mut ends = [0u32; LISTED];
-    plan(kind, limit, h, w, g, &mut wide, &mut high, &mut ends, work)
 }
