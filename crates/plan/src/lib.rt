@@ -284,9 +284,61 @@ fn sizes_of(h: &[u16], w: &[u16], k: usize) -> Sizes
     }
 }
 
-// A width that the best layout stays under: one more than that with k components in the first group, if there is such a
-// layout.
+// A width that the best nested layout stays under: one more than that with k components in the first group, if there is
+// such a layout.
 fn bound_by(
+    limit: Rows,
+    g0: Rows,
+    k: usize,
+    h: &[u16],
+    w: &[u16],
+    g: &[u16],
+    widths: &[u32],
+    heights: &[u32],
+    row: usize,
+    work: &mut [u32],
+) -> Slices
+    requires { ⌜ FirstAsks Nested (limit .0) (g0 .0) (now h) (now w) (now g) (now widths) (now heights) ⌝ }
+    requires { ⌜ RowAsks Nested (limit .0) (g0 .0) (now h) (now w) (now g) (now work) row ⌝ }
+    requires { ⌜ row ≤ mostRow ⌝ }
+    ensures { λ r. ⌜ Under Nested (limit .0) (g0 .0)
+        (componentsIn (now (h .entry)) (now (w .entry)) (now (g .entry))) (r .0) ⌝ }
+    ensures { λ r. ⌜ RowDone Nested (limit .0) (g0 .0) (now (h .entry)) (now (w .entry)) (now (g .entry))
+        (now (work .entry)) (now (work .exit)) row ⌝ }
+{
+    if k == 0 {
+        return Slices(NONE);
+    }
+    if h.len() < k {
+        return Slices(NONE);
+    }
+    let s = sizes_of(h, w, k);
+    let last = k - 1;
+    let rest = rest_at(widths, heights, last);
+    let none = Best {
+        width: Slices(NONE),
+        height: Rows(NONE),
+        end: 0,
+    };
+    let at = row + last;
+    let b = try_folds(
+        limit,
+        g0,
+        s.tall,
+        s.widest,
+        &h[..k],
+        &w[..k],
+        &g[..k],
+        none,
+        rest,
+        at,
+        work,
+    );
+    Slices(lesser(NONE, b.width.0 + 1))
+}
+
+// Apart no group is searched, so a bound would gain nothing.
+fn likely_bound(
     kind: Kind,
     limit: Rows,
     g0: Rows,
@@ -307,37 +359,10 @@ fn bound_by(
     ensures { λ r. ⌜ RowDone kind (limit .0) (g0 .0) (now (h .entry)) (now (w .entry)) (now (g .entry))
         (now (work .entry)) (now (work .exit)) row ⌝ }
 {
-    if k == 0 {
-        return Slices(NONE);
+    match kind {
+        Kind::Apart => Slices(NONE),
+        Kind::Nested => bound_by(limit, g0, k, h, w, g, widths, heights, row, work),
     }
-    if h.len() < k {
-        return Slices(NONE);
-    }
-    let s = sizes_of(h, w, k);
-    let last = k - 1;
-    let rest = rest_at(widths, heights, last);
-    let none = Best {
-        width: Slices(NONE),
-        height: Rows(NONE),
-        end: 0,
-    };
-    let at = row + last;
-    let b = try_first(
-        kind,
-        limit,
-        g0,
-        s.tall,
-        s.widest,
-        k,
-        h,
-        w,
-        g,
-        none,
-        rest,
-        at,
-        work,
-    );
-    Slices(lesser(NONE, b.width.0 + 1))
 }
 
 // The best layout of what is left of a stack, from the best ones behind 1, 2, 3 and so on of its components. Groups that
@@ -402,7 +427,8 @@ fn first_group(
     best
 }
 
-// The best first group, where one of k components is likely: it is tried first, and what is wider is left out.
+// The best first group, where one of k components is likely: it is tried first, and what is wider is left out. Most often a
+// first group ends where that of the next component ends.
 fn likely_first(
     kind: Kind,
     limit: Rows,
@@ -424,17 +450,8 @@ fn likely_first(
     ensures { λ r. ⌜ RowDone kind (limit .0) (g0 .0) (now (h .entry)) (now (w .entry)) (now (g .entry))
         (now (work .entry)) (now (work .exit)) row ⌝ }
 {
-    let bound = bound_by(kind, limit, g0, k, h, w, g, widths, heights, row, work);
+    let bound = likely_bound(kind, limit, g0, k, h, w, g, widths, heights, row, work);
     first_group(kind, limit, g0, bound, h, w, g, widths, heights, row, work)
-}
-
-// How many components a likely first group has: nested it ends where that of the next component ends. Apart no group is
-// searched, so a bound would gain nothing.
-fn likely_end(kind: Kind, next: u32) -> usize {
-    match kind {
-        Kind::Apart => 0,
-        Kind::Nested => next as usize + 1,
-    }
 }
 
 fn gap_before(g: &[u16], i: usize) -> Rows
@@ -473,11 +490,12 @@ fn best_from(
         (now (work .entry)) (now (work .exit)) row ⌝ }
 {
     let next = i + 1;
+    let likely = next_end as usize + 1;
     likely_first(
         kind,
         limit,
         gap_before(g, i),
-        likely_end(kind, next_end),
+        likely,
         &h[i..],
         &w[i..],
         &g[i..],
