@@ -1,5 +1,5 @@
 #!/usr/bin/env bash
-# Times both folds and the table next to document 001's own method, some four minutes; prints the tables of
+# Times both folds and the table next to document 001's own method, some three minutes; prints the tables of
 # docs/PERFORMANCE.md, and a line to standard error as each row is done.
 #
 #   interface/bench.sh [--renew] [--keep FILE]
