@@ -2,7 +2,7 @@
 use Prim.Native.Nat.{ℕ, _+_, _*_, _≤_, _<_}
 use mathlib.Core.Path.{_≡_}
 use mathlib.Core.List.{List}
-use lib.ListN.{length, take, drop}
+use lib.ListN.{length, getD, take, drop}
 use Rattle.terms.specs.Numbers.{mostSize, mostApart, mostLimit}
 use Rattle.terms.specs.declared.Component.{Component}
 use Rattle.terms.specs.declared.Kind.{Kind}
@@ -78,6 +78,13 @@ pub record LeastAsks (kind : Kind) (hs ws gs widths heights ends work : List ℕ
 pub record LeastFound (kind : Kind) (hs ws gs widths heights ends work : List ℕ) (w : ℕ) (least : Least) : Type 0 where
   pub least-for : LeastFor kind (componentsIn hs ws gs) w (least .limit .0)
   pub held : Known kind (least .known .0) 0 hs ws gs widths heights ends work
+
+-- The heights and widths of a stack, whatever its gaps.
+pub record CellsAsk (hs ws : List ℕ) : Type 0 where
+  pub few : length hs ≤ mostApart
+  pub same : length ws ≡ length hs
+  pub low : (i : ℕ) → getD hs i 0 ≤ mostSize
+  pub slim : (i : ℕ) → getD ws i 0 ≤ mostSize
 
 -- No stack has more rows times slices in its components.
 abbrev pub mostArea : ℕ

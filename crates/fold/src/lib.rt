@@ -11,12 +11,11 @@ ghost use Rattle.folding.specs.Calls.{measuredAnswer};
 ghost use Rattle.layout.specs.Plan.{StackLists};
 ghost use Rattle.fold.specs.Calls.{foldChecks, Searched, ToHeight, ToWidth};
 ghost use Rattle.fold.specs.Inner.{FirstLists, Foldable, FirstAnswered, Written};
-ghost use Rattle.fold.specs.Inner.{Replannable, LeastFound, LeastAsks, mostArea, Unfolded};
+ghost use Rattle.fold.specs.Inner.{Replannable, LeastFound, LeastAsks, CellsAsk, mostArea, Unfolded};
 use folding::Measured;
 use folding::Outline;
 use group::NONE;
 use numbers::get;
-use numbers::larger;
 use plan::LISTED;
 use terms::Counted;
 use terms::Kind;
@@ -148,27 +147,31 @@ fn product(a: u32, b: u32) -> u64
     long(a) * long(b)
 }
 
+// The rows times slices of all components.
+fn area_of(h: &[u16], w: &[u16]) -> u64
+    requires { ⌜ CellsAsk (now h) (now w) ⌝ }
+    ensures { λ r. ⌜ r ≤ mostArea ⌝ }
+{
+    let n = h.len();
+    let mut area = 0;
+    let mut k = 0;
+    while k < n {
+        area += product(get(h, k), get(w, k));
+        k += 1;
+    }
+    area
+}
+
 fn flat_of(h: &[u16], w: &[u16], g: &[u16]) -> Flat
     requires { ⌜ StackLists Apart (now h) (now w) (now g) × (0 < length (now h)) ⌝ }
     ensures { λ r. ⌜ Unfolded (componentsIn (now (h .entry)) (now (w .entry)) (now (g .entry))) r ⌝ }
 {
     let n = h.len();
-    let mut widest = 0;
-    let mut tall = 0;
-    let mut area = 0;
-    let mut k = 0;
-    while k < n {
-        let high = get(h, k);
-        let wide = get(w, k);
-        widest = larger(widest, wide);
-        tall += high;
-        area += product(high, wide);
-        k += 1;
-    }
+    let sizes = plan::sizes_of(h, w, n);
     Flat {
-        widest: Slices(widest),
-        height: Rows(tall + get(g, n - 1)),
-        area,
+        widest: Slices(sizes.widest.0),
+        height: Rows(sizes.tall.0 + get(g, n - 1)),
+        area: area_of(h, w),
     }
 }
 

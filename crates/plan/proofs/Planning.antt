@@ -5,7 +5,7 @@ use mathlib.Core.Logic.{_⊎_, inl, inr}
 use mathlib.Core.List.{List, []}
 use native.Mathlib.Nat.{eq-or-lt-of-le}
 use native.Mathlib.Omega.{arith}
-use lib.ListN.{length, getD, take, drop, set, length-set, length-drop}
+use lib.ListN.{length, getD, take, drop, set, length-drop}
 use lib.Seq.{getD-drop, getD-set-same, getD-set-other}
 use Rattle.terms.specs.declared.Component.{Component}
 use Rattle.terms.specs.declared.Kind.{Kind}
@@ -22,7 +22,7 @@ use Rattle.layout.specs.Table.{outline}
 use Rattle.layout.specs.Plan.{PlannedAt}
 use Rattle.plan.specs.declared.Best.{Best}
 use Rattle.plan.specs.Asks.{layoutIn, Later, FirstAsks, FromAsks, PlanAsks, PlannedFrom, PlanDone, gapBefore, planRoom, KnownTo}
-use Rattle.plan.specs.Memory.{rowFor, RowAsks, RowDone, RowRoom, Readied, RowsFrom, RowsTo, Memory, EntryAsks, EntryDone, Known}
+use Rattle.plan.specs.Memory.{rowFor, RowAsks, RowDone, RowRoom, Readied, Memory, EntryAsks, EntryDone, Known}
 use Rattle.plan.proofs.Remembering.{row-start, row-asks, row-room, rows-from, rows-to, rows-none, rows-known}
 use Rattle.plan.proofs.Gaps.{gap-near}
 use Rattle.plan.proofs.Columns.{component-at, gap-last}

@@ -12,7 +12,7 @@ use Rattle.terms.proofs.Order.{order}
 use Rattle.terms.proofs.Parts.{from}
 use Rattle.terms.specs.declared.Kind.{Kind}
 use Rattle.terms.specs.declared.Kind.the-variants.{Apart, Nested}
-use Rattle.group_memory.specs.Memory.{unknown, Holds, Remembered}
+use Rattle.group_memory.specs.Memory.{unknown, Holds}
 use Rattle.group_memory.proofs.Memory.{holds-lower, holds-nothing}
 use Rattle.terms.specs.Component.{mostOf}
 use Rattle.plan.specs.Asks.{planRoom, gapBefore}

@@ -161,7 +161,7 @@ module _ {kind : Kind} {limit g0 : ℕ} {hs ws gs widths heights : List ℕ} (a 
   wide-here = rw next (sizes .widest-is gs)
 
   pub bound-asks : GroupAsks kind limit g0 (z .widest .0) (take k hs) (take k ws) (take k gs) start rest × Packed (z .tall .0) (take k hs) (take k ws) (take k gs)
-  bound-asks = rw last at (group-asks a (k - 1) (omega arith) rest er {best = start} tall-here (sizes .low) wide-here (inr (refl, omega arith)))
+  bound-asks = rw last at (group-asks a (k - 1) (omega arith) rest er {best = start} tall-here (omega (arith, sizes .low)) wide-here (inr (refl, omega arith)))
 
   pub bound-low : (b : Best) → layoutIn b ≡ choice (candidate kind limit g0 (componentsIn (take k hs) (take k ws) (take k gs)) (layoutIn rest) k) (layoutIn start) → b .width .0 ≤ none
   bound-low b e = no-wider (fair-step (candidate kind limit g0 (componentsIn (take k hs) (take k ws) (take k gs)) (layoutIn rest) k) (layoutIn start) (layoutIn b) e (inr (refl, omega arith)))

@@ -4,7 +4,7 @@ use mathlib.Core.Path.{_≡_, refl}
 use mathlib.Core.List.{List, []}
 use native.Mathlib.Numerals.{add-one}
 use native.Mathlib.Omega.{arith}
-use lib.ListN.{length, getD, take}
+use lib.ListN.{getD, take}
 use Rattle.terms.specs.Component.{componentIn, componentsIn}
 use Rattle.group.specs.Rows.{tall}
 use Rattle.group.specs.Group.{widest}

@@ -62,7 +62,7 @@ pub record SizesAsk (hs ws : List ℕ) (k : ℕ) : Type 0 where
 pub record SizesOf (hs ws : List ℕ) (k : ℕ) (r : Sizes) : Type 0 where
   pub tall-is : (gs : List ℕ) → r .tall .0 ≡ tall (take k (componentsIn hs ws gs))
   pub widest-is : (gs : List ℕ) → r .widest .0 ≡ widest (take k (componentsIn hs ws gs))
-  pub low : r .tall .0 ≤ none
+  pub low : r .tall .0 ≤ mostSize * mostApart
 
 -- A first group does not ask where the rest has its own groups.
 abbrev pub restAt : List ℕ → List ℕ → ℕ → Best

@@ -33,9 +33,9 @@ struct Best {
 }
 
 // The rows of some components without empty rows between them, and the greatest of their widths.
-struct Sizes {
-    tall: Rows,
-    widest: Slices,
+pub struct Sizes {
+    pub tall: Rows,
+    pub widest: Slices,
 }
 
 // The groups of a stack of 64 components: as many as there are pairs of a first and a last one.
@@ -266,7 +266,7 @@ fn rest_at(widths: &[u32], heights: &[u32], k: usize) -> Best
 }
 
 // The rows of the first k components without empty rows, and the greatest of their widths.
-fn sizes_of(h: &[u16], w: &[u16], k: usize) -> Sizes
+pub fn sizes_of(h: &[u16], w: &[u16], k: usize) -> Sizes
     requires { ⌜ SizesAsk (now h) (now w) k ⌝ }
     ensures { λ r. ⌜ SizesOf (now (h .entry)) (now (w .entry)) k r ⌝ }
 {
@@ -596,8 +596,9 @@ fn plan_at(
     ends[i] = b.end;
 }
 
-// The same as `plan`, where the lists hold a plan for the limit `known` and the work buffer what is remembered of its groups:
-// if that limit is higher, what of it keeps the limit is not searched again.
+// For a height: the best layouts of a stack and of what is left of it behind 1, 2, 3 and so on components, and the outline
+// of the whole. A width of NONE means that there is none. Where the lists hold a plan for the limit `known`, the work buffer
+// holds what is remembered of its groups: if that limit is higher, what of it keeps the limit is not searched again.
 pub fn replan(
     kind: Kind,
     known: Rows,
@@ -646,25 +647,4 @@ pub fn replan(
         width: Slices(widths[0]),
         height: Rows(heights[0]),
     }
-}
-
-// For a height: the best layouts of a stack and of what is left of it behind 1, 2, 3 and so on components, and the outline
-// of the whole. A width of NONE means that there is none. The content of the work buffer is free afterwards.
-pub fn plan(
-    kind: Kind,
-    limit: Rows,
-    h: &[u16],
-    w: &[u16],
-    g: &[u16],
-    widths: &mut [u32],
-    heights: &mut [u32],
-    ends: &mut [u32],
-    work: &mut [u32],
-) -> Outline
-    requires { ⌜ PlanAsks kind (limit .0)
-        (now h) (now w) (now g) (now widths) (now heights) (now ends) (now work) ⌝ }
-    ensures { λ r. ⌜ PlanDone kind (limit .0) (componentsIn (now (h .entry)) (now (w .entry)) (now (g .entry)))
-        (now (widths .exit)) (now (heights .exit)) (now (ends .exit)) r ⌝ }
-{
-    replan(kind, Rows(0), limit, h, w, g, widths, heights, ends, work)
 }
