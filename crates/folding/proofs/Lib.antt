@@ -12,4 +12,5 @@ pub mod Choosing
 pub mod Renumber
 pub mod Flat
 pub mod WidthSum
+pub mod Cells
 pub mod Listings

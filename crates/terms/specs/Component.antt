@@ -1,5 +1,5 @@
 -- Components, and which lists of them are a stack (document 01, "Components and stack files").
-use Prim.Native.Nat.{ℕ, zero, suc, _+_}
+use Prim.Native.Nat.{ℕ, zero, suc, _+_, _*_}
 use mathlib.Core.List.{List, [], _∷_, _++_}
 use mathlib.Core.Bool.{Bool, true, false, not, _&&_}
 use lib.ListN.{length, getD}
@@ -74,3 +74,8 @@ countOf a = andThen a (λ cs. result (length cs))
 unfoldable pub widthSum : List Component → ℕ
 widthSum [] = 0
 widthSum (c ∷ cs) = c .width .0 + widthSum cs
+
+-- The cells of all components together: "the sum of each component's width times its height".
+unfoldable pub cellSum : List Component → ℕ
+cellSum [] = 0
+cellSum (c ∷ cs) = c .width .0 * c .height .0 + cellSum cs
