@@ -12,10 +12,8 @@ use Rattle.terms.specs.Component.{componentsIn}
 use Rattle.stack.specs.File.{checkOf}
 use Rattle.stack.proofs.Reading.{Held}
 use Rattle.folding.specs.declared.Outline.{Outline}
-use Rattle.folding.specs.declared.Placement.{Placement}
-use Rattle.folding.specs.Best.{BestForHeight, UnmeetableHeight}
 use Rattle.folding.proofs.Measuring.{components-held}
-use Rattle.fold.specs.Calls.{foldChecks, validOf, Searched, Answered}
+use Rattle.fold.specs.Calls.{foldChecks, validOf, Wanted, Searched, Answered, byHeight}
 use Rattle.plan.specs.Asks.{Plannable}
 use Rattle.fold.specs.Inner.{FirstLists, Written}
 use Rattle.fold.proofs.Checks.{Lent, lent, refused-alike, all-well}
@@ -23,26 +21,26 @@ use Rattle.layout.proofs.Groups.{Stacked}
 use Rattle.fold.proofs.Held.{stacked}
 use Rattle.fold.proofs.Limits.{to-height}
 
-module _ (Best : Kind → List Component → ℕ → List Placement → Outline → Type 0) (Unmeetable : Kind → List Component → ℕ → Type 0) (kind : Kind) (limit : ℕ) (out work : List ℕ) where
+module _ (wanted : Wanted) (kind : Kind) (limit : ℕ) (out work : List ℕ) where
   -- Refused by the checks: nothing was written.
-  refused : (k : ℕ) (a : Answer (List Component)) → a ≡ refusal k → Answered Best Unmeetable kind limit out work out work (refusal k) a
+  refused : (k : ℕ) (a : Answer (List Component)) → a ≡ refusal k → Answered wanted out work out work (refusal k) a
   refused k a e = rw e (refl, refl, refl)
 
   pub first-refused : (n k : ℕ) (cs : List Component) → foldChecks limit (length out) (length work) n n ≡ refusal k
-      → Answered Best Unmeetable kind limit out work out work (refusal k) (foldChecks limit (length out) (length work) n cs)
+      → Answered wanted out work out work (refusal k) (foldChecks limit (length out) (length work) n cs)
   first-refused n k cs e = refused k (foldChecks limit (length out) (length work) n cs) (refused-alike limit (length out) (length work) n n cs k e)
 
-  searched : (out′ work′ : List ℕ) (answer : Answer Outline) (cs : List Component) (a : Answer (List Component)) → a ≡ result cs → Searched Best Unmeetable kind cs limit out out′ answer
-      → Answered Best Unmeetable kind limit out work out′ work′ answer a
+  searched : (out′ work′ : List ℕ) (answer : Answer Outline) (cs : List Component) (a : Answer (List Component)) → a ≡ result cs → Searched wanted cs out out′ answer
+      → Answered wanted out work out′ work′ answer a
   searched out′ work′ answer cs a e s = rw e s
 
   -- The file's refusals come first.
-  pub refused-file : (file : List ℕ) (k : ℕ) → checkOf kind file ≡ refusal k → Answered Best Unmeetable kind limit out work out work (refusal k) (validOf kind file limit out work)
+  pub refused-file : (file : List ℕ) (k : ℕ) → checkOf kind file ≡ refusal k → Answered wanted out work out work (refusal k) (validOf kind file limit out work)
   refused-file file k e = refused k (validOf kind file limit out work) (rw e)
 
   pub of-file : {file : List ℕ} {n : ℕ} {hs ws gs : List ℕ} (h : Held kind file n hs ws gs) (out′ work′ : List ℕ) (answer : Answer Outline)
-      → Answered Best Unmeetable kind limit out work out′ work′ answer (foldChecks limit (length out) (length work) n (componentsIn (take n hs) (take n ws) (take n gs)))
-      → Answered Best Unmeetable kind limit out work out′ work′ answer (validOf kind file limit out work)
+      → Answered wanted out work out′ work′ answer (foldChecks limit (length out) (length work) n (componentsIn (take n hs) (take n ws) (take n gs)))
+      → Answered wanted out work out′ work′ answer (validOf kind file limit out work)
   of-file h out′ work′ answer a = rw (h .checked, h .count) (rw (components-held h) at a)
 
 -- The checks passed: the stack in the first n entries can be planned, and its placements fit.
@@ -65,10 +63,10 @@ module _ (kind : Kind) (n limit : ℕ) (hs ws gs out work : List ℕ) (f : First
   passes : foldChecks limit (length out) (length work) n cs ≡ result cs
   passes = sym (all-well limit (length out) (length work) n cs (l .low) (l .high) (l .room) (l .work-room))
 
-  pub first-searched : (Best : Kind → List Component → ℕ → List Placement → Outline → Type 0) (Unmeetable : Kind → List Component → ℕ → Type 0) (out′ work′ : List ℕ) (answer : Answer Outline)
-      → Searched Best Unmeetable kind cs limit out out′ answer → Answered Best Unmeetable kind limit out work out′ work′ answer (foldChecks limit (length out) (length work) n cs)
-  first-searched Best Unmeetable out′ work′ answer s = searched Best Unmeetable kind limit out work out′ work′ answer cs _ passes s
+  pub first-searched : (wanted : Wanted) (out′ work′ : List ℕ) (answer : Answer Outline)
+      → Searched wanted cs out out′ answer → Answered wanted out work out′ work′ answer (foldChecks limit (length out) (length work) n cs)
+  first-searched wanted out′ work′ answer s = searched wanted kind limit out work out′ work′ answer cs _ passes s
 
   pub first-height : (out′ work′ : List ℕ) (answer : Answer Outline) → Written kind cs limit out out′ answer
-      → Answered BestForHeight UnmeetableHeight kind limit out work out′ work′ answer (foldChecks limit (length out) (length work) n cs)
-  first-height out′ work′ answer w = first-searched BestForHeight UnmeetableHeight out′ work′ answer (to-height kind cs stack-first limit out out′ answer w)
+      → Answered (byHeight kind limit) out work out′ work′ answer (foldChecks limit (length out) (length work) n cs)
+  first-height out′ work′ answer w = first-searched (byHeight kind limit) out′ work′ answer (to-height kind cs stack-first limit out out′ answer w)

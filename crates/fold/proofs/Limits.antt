@@ -7,14 +7,13 @@ use Rattle.terms.specs.declared.Component.{Component}
 use Rattle.terms.specs.declared.Kind.{Kind}
 use Rattle.terms.specs.Answer.{Answer, refusal, result}
 use Rattle.folding.specs.declared.Outline.{Outline}
-use Rattle.folding.specs.Best.{BestForHeight, BestForWidth, UnmeetableHeight, UnmeetableWidth}
 use Rattle.model.proofs.Best.{unmeetable-height, layout-high, below-one, below-next, below-own, no-lower, own-height}
 use Rattle.layout.specs.Layout.{layoutOf}
 use Rattle.layout.proofs.Foldings.{search}
 use Rattle.layout.proofs.Best.{best-height, best-width}
 use Rattle.layout.proofs.Widest.{widest-some, none-narrower, flat-enough}
 use Rattle.group.specs.Group.{none}
-use Rattle.fold.specs.Calls.{Searched}
+use Rattle.fold.specs.Calls.{byHeight, byWidth, Searched}
 use Rattle.plan.specs.Asks.{bestAt}
 use Rattle.fold.specs.declared.Flat.{Flat}
 use Rattle.fold.specs.Inner.{Written, LeastFor, Between, Unfolded}
@@ -25,17 +24,17 @@ pub slim-some : {cs : List Component} {f : Flat} → Stacked cs → Unfolded cs 
 slim-some {cs} s u most l = omega (arith, u .widest-is, widest-some cs (s .good .sized) (s .some))
 
 module _ (kind : Kind) (cs : List Component) (s : Stacked cs) where
-  pub to-height : (limit : ℕ) (out out′ : List ℕ) (answer : Answer Outline) → Written kind cs limit out out′ answer → Searched BestForHeight UnmeetableHeight kind cs limit out out′ answer
+  pub to-height : (limit : ℕ) (out out′ : List ℕ) (answer : Answer Outline) → Written kind cs limit out out′ answer → Searched (byHeight kind limit) cs out out′ answer
   to-height limit out out′ (refusal k) w = (w .0, unmeetable-height (search kind cs s) limit (w .1), w .2)
   to-height limit out out′ (result o) w = (rw (w .0) (best-height kind cs s limit _ (w .1) (w .2)), w .3, w .4)
 
   -- For a width. No folding is narrower than the widest component.
   module _ (most : ℕ) (h : most ≤ 2000000) where
-    pub too-slim : (f : Flat) (out : List ℕ) → Unfolded cs f → most < f .widest .0 → Searched BestForWidth UnmeetableWidth kind cs most out out (refusal 9)
+    pub too-slim : (f : Flat) (out : List ℕ) → Unfolded cs f → most < f .widest .0 → Searched (byWidth kind most) cs out out (refusal 9)
     too-slim f out u l = (refl, λ ps legal k. absurd (omega (arith, u .widest-is, none-narrower kind cs s ps legal)), refl)
 
     pub to-width : (limit : ℕ) (out out′ : List ℕ) (answer : Answer Outline) → LeastFor kind cs most limit → Written kind cs limit out out′ answer
-        → Searched BestForWidth UnmeetableWidth kind cs most out out′ answer
+        → Searched (byWidth kind most) cs out out′ answer
     to-width limit out out′ (refusal k) l w = absurd (omega (arith, l .within, w .1))
     to-width limit out out′ (result o) l w = (rw (w .0) (best-width kind cs s limit _ (w .1) (w .2) most (l .below) (l .within)), w .3, w .4)
 

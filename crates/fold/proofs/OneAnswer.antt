@@ -19,7 +19,7 @@ use Rattle.folding.specs.Outline.{outlineOf}
 use Rattle.folding.specs.Calls.{measureIn, measureOf}
 use Rattle.folding.specs.Best.{BestForHeight, BestForWidth, UnmeetableHeight, UnmeetableWidth}
 use Rattle.layout.specs.Table.{outline}
-use Rattle.fold.specs.Calls.{foldChecks, validOf, Searched, Answered}
+use Rattle.fold.specs.Calls.{foldChecks, validOf, Wanted, Searched, Answered}
 use Rattle.fold.proofs.Checks.{lent, handed-on}
 
 -- Two outlines of which neither is better: the first number decides, then the second.
@@ -49,33 +49,32 @@ module _ (kind : Kind) (cs : List Component) (limit : ℕ) (ps qs : List Placeme
       let e = both-ways (high o) (wide o) (high p) (wide p) _ _ _ _ (ap high (b .has)) (ap wide (b .has)) (ap high (c .has)) (ap wide (c .has)) (b .best qs (c .is-legal) (c .keeps)) (c .best ps (b .is-legal) (b .keeps)) in
       same-outline (wide o) (high o) (wide p) (high p) (e .1) (e .0)
 
-module _ (Best : Kind → List Component → ℕ → List Placement → Outline → Type 0) (Unmeetable : Kind → List Component → ℕ → Type 0) (kind : Kind) (cs : List Component) (limit : ℕ)
-    (one : (ps qs : List Placement) (o p : Outline) → Best kind cs limit ps o → Best kind cs limit qs p → o ≡ p)
-    (met : (ps : List Placement) (o : Outline) → Best kind cs limit ps o → Unmeetable kind cs limit → ⊥) where
-  best-answer : (ps : List Placement) (o : Outline) → Best kind cs limit ps o → (out out′ : List ℕ) (answer : Answer Outline) → Searched Best Unmeetable kind cs limit out out′ answer → answer ≡ result o
+module _ (wanted : Wanted) (cs : List Component) (one : (ps qs : List Placement) (o p : Outline) → wanted .Best cs ps o → wanted .Best cs qs p → o ≡ p)
+    (met : (ps : List Placement) (o : Outline) → wanted .Best cs ps o → wanted .Unmeetable cs → ⊥) where
+  best-answer : (ps : List Placement) (o : Outline) → wanted .Best cs ps o → (out out′ : List ℕ) (answer : Answer Outline) → Searched wanted cs out out′ answer → answer ≡ result o
   best-answer ps o b out out′ (refusal k) s = absurd (met ps o b (s .1))
   best-answer ps o b out out′ (result p) s = ap result (sym (one ps _ o p b (s .0)))
 
-  no-answer : Unmeetable kind cs limit → (out out′ : List ℕ) (answer : Answer Outline) → Searched Best Unmeetable kind cs limit out out′ answer → answer ≡ refusal 9
+  no-answer : wanted .Unmeetable cs → (out out′ : List ℕ) (answer : Answer Outline) → Searched wanted cs out out′ answer → answer ≡ refusal 9
   no-answer u out out′ (refusal k) s = ap refusal (s .0)
   no-answer u out out′ (result p) s = absurd (met _ p (s .0) u)
 
-  module _ (out work out′ work′ : List ℕ) (answer : Answer Outline) (valid : Answer (List Component)) (e : valid ≡ result cs) (a : Answered Best Unmeetable kind limit out work out′ work′ answer valid) where
-    searched : Searched Best Unmeetable kind cs limit out out′ answer
+  module _ (out work out′ work′ : List ℕ) (answer : Answer Outline) (valid : Answer (List Component)) (e : valid ≡ result cs) (a : Answered wanted out work out′ work′ answer valid) where
+    searched : Searched wanted cs out out′ answer
     searched = rw e at a
 
-    pub the-best : (ps : List Placement) (o : Outline) → Best kind cs limit ps o → answer ≡ result o
+    pub the-best : (ps : List Placement) (o : Outline) → wanted .Best cs ps o → answer ≡ result o
     the-best ps o b = best-answer ps o b out out′ answer searched
 
-    pub there-is-none : Unmeetable kind cs limit → answer ≡ refusal 9
+    pub there-is-none : wanted .Unmeetable cs → answer ≡ refusal 9
     there-is-none u = no-answer u out out′ answer searched
 
     -- What stands in the placements' buffer.
-    pub best-left : (o : Outline) → answer ≡ result o → Searched Best Unmeetable kind cs limit out out′ (result o)
+    pub best-left : (o : Outline) → answer ≡ result o → Searched wanted cs out out′ (result o)
     best-left o q = rw q at searched
 
     pub none-left : (k : ℕ) → answer ≡ refusal k → out′ ≡ out
-    none-left k q = let s : Searched Best Unmeetable kind cs limit out out′ (refusal k) = rw q at searched in s .2
+    none-left k q = let s : Searched wanted cs out out′ (refusal k) = rw q at searched in s .2
 
 module _ (kind : Kind) (cs : List Component) (limit : ℕ) (ps : List Placement) (o : Outline) where
   pub met-height : BestForHeight kind cs limit ps o → UnmeetableHeight kind cs limit → ⊥
@@ -85,8 +84,8 @@ module _ (kind : Kind) (cs : List Component) (limit : ℕ) (ps : List Placement)
   met-width b u = u ps (b .is-legal) (b .keeps)
 
 -- A call that its checks refuse answers so, and leaves what was lent as it was.
-module _ (Best : Kind → List Component → ℕ → List Placement → Outline → Type 0) (Unmeetable : Kind → List Component → ℕ → Type 0) (kind : Kind) (limit : ℕ) (out work out′ work′ : List ℕ) (answer : Answer Outline) where
-  pub refused-call : (k : ℕ) (valid : Answer (List Component)) → valid ≡ refusal k → Answered Best Unmeetable kind limit out work out′ work′ answer valid → (answer ≡ refusal k) × (out′ ≡ out) × (work′ ≡ work)
+module _ (wanted : Wanted) (out work out′ work′ : List ℕ) (answer : Answer Outline) where
+  pub refused-call : (k : ℕ) (valid : Answer (List Component)) → valid ≡ refusal k → Answered wanted out work out′ work′ answer valid → (answer ≡ refusal k) × (out′ ≡ out) × (work′ ≡ work)
   refused-call k valid e a = rw e at a
 
 -- A folding that a call writes measures to the outline that it gives.

@@ -23,44 +23,53 @@ inLimit x = leb 1 x && leb x mostLimit
 abbrev pub workCheck : {A : Type 0} → ℕ → A → Answer A
 workCheck work v = refuseIf (ltb work leastWork) 8 (result v)
 
--- Refusal 7, "H or W outside its range", then 8, "fewer than n placements, .. a short work buffer": what a fold call checks
--- behind the file's own refusals. n is the number of components, `out` and `work` are the lengths of the two lent buffers.
+-- Refusal 8, "fewer than n placements, .. a short work buffer". n is the number of components, `out` and `work` are the lengths
+-- of the two lent buffers.
+abbrev pub lentChecks : {A : Type 0} → ℕ → ℕ → ℕ → A → Answer A
+lentChecks out work n v = refuseIf (ltb (out / 3) n) 8 (workCheck work v)
+
+-- Refusal 7, "H or W outside its range", then 8: what a fold call checks behind the file's own refusals.
 abbrev pub foldChecks : {A : Type 0} → ℕ → ℕ → ℕ → ℕ → A → Answer A
-foldChecks limit out work n v =
-    refuseIf (not (inLimit limit)) 7
-    (refuseIf (ltb (out / 3) n) 8
-    (workCheck work v))
+foldChecks limit out work n v = refuseIf (not (inLimit limit)) 7 (lentChecks out work n v)
 
 -- "Input is valid and buffers are long enough for a call where none of its refusals but 9 applies": refusals 1 to 8 in
 -- document 01's order, or the stack's components.
 abbrev pub validOf : Kind → List ℕ → ℕ → List ℕ → List ℕ → Answer (List Component)
 validOf kind file limit out work = andThen (checkOf kind file) (λ cs. foldChecks limit (length out) (length work) (length cs) cs)
 
--- Both calls, for what is best and what is unmeetable by a height or by a width.
-module _ (Best : Kind → List Component → ℕ → List Placement → Outline → Type 0) (Unmeetable : Kind → List Component → ℕ → Type 0) where
+-- What a call looks for: the foldings that it may write for a stack, each with its outline, and when there is none.
+pub record Wanted : Type 1 where
+  pub Best : List Component → List Placement → Outline → Type 0
+  pub Unmeetable : List Component → Type 0
+
+module _ (wanted : Wanted) where
   -- "With valid input and buffers long enough, a limit is refused as unmeetable exactly when no legal folding keeps it, and
   -- a folding is returned exactly when one does." "the folding that a fold call returns is the first n placements of its
   -- buffer"; "Only the first n placements .. are written; all beyond stay unchanged."
   -- Which legal folding with the fixed outline is written is free.
-  abbrev pub Searched : Kind → List Component → ℕ → List ℕ → List ℕ → Answer Outline → Type 0
-  Searched kind cs limit out out′ (refusal k) = (k ≡ 9) × Unmeetable kind cs limit × (out′ ≡ out)
-  Searched kind cs limit out out′ (result o) =
-      Best kind cs limit (placementsOf out′ (length cs)) o
+  abbrev pub Searched : List Component → List ℕ → List ℕ → Answer Outline → Type 0
+  Searched cs out out′ (refusal k) = (k ≡ 9) × wanted .Unmeetable cs × (out′ ≡ out)
+  Searched cs out out′ (result o) =
+      wanted .Best cs (placementsOf out′ (length cs)) o
       × (drop (3 * length cs) out′ ≡ drop (3 * length cs) out)
       × (length out′ ≡ length out)
 
   -- "a refusal leaves every buffer lent for results unchanged", "and so is the work buffer where its content is not free":
   -- it is free "after a result or refusal 9".
-  abbrev pub Answered : Kind → ℕ → List ℕ → List ℕ → List ℕ → List ℕ → Answer Outline → Answer (List Component) → Type 0
-  Answered kind limit out work out′ work′ answer (refusal k) = (answer ≡ refusal k) × (out′ ≡ out) × (work′ ≡ work)
-  Answered kind limit out work out′ work′ answer (result cs) = Searched kind cs limit out out′ answer
+  abbrev pub Answered : List ℕ → List ℕ → List ℕ → List ℕ → Answer Outline → Answer (List Component) → Type 0
+  Answered out work out′ work′ answer (refusal k) = (answer ≡ refusal k) × (out′ ≡ out) × (work′ ≡ work)
+  Answered out work out′ work′ answer (result cs) = Searched cs out out′ answer
+
+abbrev pub byHeight : Kind → ℕ → Wanted
+byHeight kind limit = record { Best = λ cs. BestForHeight kind cs limit; Unmeetable = λ cs. UnmeetableHeight kind cs limit }
+
+abbrev pub byWidth : Kind → ℕ → Wanted
+byWidth kind limit = record { Best = λ cs. BestForWidth kind cs limit; Unmeetable = λ cs. UnmeetableWidth kind cs limit }
 
 -- "Fold to height H: writes a legal folding of height at most H; the outline is the narrowest, and of those the lowest."
 abbrev pub ToHeight : Kind → List ℕ → ℕ → List ℕ → List ℕ → Answer Outline → List ℕ → List ℕ → Type 0
-ToHeight kind file limit out work answer out′ work′ =
-    Answered BestForHeight UnmeetableHeight kind limit out work out′ work′ answer (validOf kind file limit out work)
+ToHeight kind file limit out work answer out′ work′ = Answered (byHeight kind limit) out work out′ work′ answer (validOf kind file limit out work)
 
 -- "Fold to width W: width at most W; the lowest, and of those the narrowest."
 abbrev pub ToWidth : Kind → List ℕ → ℕ → List ℕ → List ℕ → Answer Outline → List ℕ → List ℕ → Type 0
-ToWidth kind file limit out work answer out′ work′ =
-    Answered BestForWidth UnmeetableWidth kind limit out work out′ work′ answer (validOf kind file limit out work)
+ToWidth kind file limit out work answer out′ work′ = Answered (byWidth kind limit) out work out′ work′ answer (validOf kind file limit out work)

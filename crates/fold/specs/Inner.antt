@@ -9,7 +9,6 @@ use Rattle.terms.specs.declared.Kind.{Kind}
 use Rattle.terms.specs.Answer.{Answer, refusal, result}
 use Rattle.terms.specs.Component.{componentsIn}
 use Rattle.folding.specs.declared.Outline.{Outline}
-use Rattle.folding.specs.declared.Placement.{Placement}
 use Rattle.folding.specs.Placement.{placementsOf}
 use Rattle.group.specs.Group.{none, widest, flatHeight}
 use Rattle.layout.specs.Layout.{layoutOf}
@@ -19,7 +18,7 @@ use Rattle.plan.specs.Asks.{Plannable, PlanAsks, bestAt}
 use Rattle.plan.specs.Memory.{Known}
 use Rattle.fold.specs.declared.Flat.{Flat}
 use Rattle.fold.specs.declared.Least.{Least}
-use Rattle.fold.specs.Calls.{foldChecks, Answered}
+use Rattle.fold.specs.Calls.{foldChecks, Wanted, Answered}
 
 -- A stack that stands in the first n entries of three lists.
 pub record FirstLists (kind : Kind) (n : ℕ) (hs ws gs : List ℕ) : Type 0 where
@@ -40,10 +39,9 @@ Replannable kind known limit hs ws gs widths heights ends work =
 
 -- What a fold call answers for the stack in the first n entries of three lists: its checks behind the file's own refusals,
 -- and then the search.
-abbrev pub FirstAnswered : (Kind → List Component → ℕ → List Placement → Outline → Type 0) → (Kind → List Component → ℕ → Type 0) → Kind
-    → ℕ → ℕ → List ℕ → List ℕ → List ℕ → List ℕ → List ℕ → Answer Outline → List ℕ → List ℕ → Type 0
-FirstAnswered Best Unmeetable kind n limit hs ws gs out work answer out′ work′ =
-    Answered Best Unmeetable kind limit out work out′ work′ answer
+abbrev pub FirstAnswered : Wanted → ℕ → ℕ → List ℕ → List ℕ → List ℕ → List ℕ → List ℕ → Answer Outline → List ℕ → List ℕ → Type 0
+FirstAnswered wanted n limit hs ws gs out work answer out′ work′ =
+    Answered wanted out work out′ work′ answer
     (foldChecks limit (length out) (length work) n (componentsIn (take n hs) (take n ws) (take n gs)))
 
 -- A folding with that outline is written where there is one.

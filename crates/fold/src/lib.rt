@@ -6,10 +6,9 @@ ghost use Rattle.terms.specs.Numbers.{mostLimit};
 ghost use Rattle.terms.specs.declared.Kind.the-variants.{Apart};
 ghost use Rattle.terms.specs.Answer.{countAnswer};
 ghost use Rattle.terms.specs.Component.{componentsIn};
-ghost use Rattle.folding.specs.Best.{BestForHeight, BestForWidth, UnmeetableHeight, UnmeetableWidth};
 ghost use Rattle.folding.specs.Calls.{measuredAnswer};
 ghost use Rattle.layout.specs.Plan.{StackLists};
-ghost use Rattle.fold.specs.Calls.{foldChecks, Searched, ToHeight, ToWidth};
+ghost use Rattle.fold.specs.Calls.{foldChecks, byHeight, byWidth, Searched, ToHeight, ToWidth};
 ghost use Rattle.fold.specs.Inner.{FirstLists, Foldable, FirstAnswered, Written};
 ghost use Rattle.fold.specs.Inner.{Replannable, LeastFound, LeastAsks, CellsAsk, mostArea, Unfolded};
 use folding::Measured;
@@ -309,8 +308,8 @@ fn write_slim(
     work: &mut [u32],
 ) -> Measured
     requires { ⌜ Foldable kind (most .0) (now h) (now w) (now g) (now out) (now work) ⌝ }
-    ensures { λ r. ⌜ Searched BestForWidth UnmeetableWidth kind
-        (componentsIn (now (h .entry)) (now (w .entry)) (now (g .entry))) (most .0)
+    ensures { λ r. ⌜ Searched (byWidth kind (most .0))
+        (componentsIn (now (h .entry)) (now (w .entry)) (now (g .entry)))
         (now (out .entry)) (now (out .exit)) (measuredAnswer r) ⌝ }
 {
     let flat = flat_of(h, w, g);
@@ -361,7 +360,7 @@ fn first_to_height(
     work: &mut [u32],
 ) -> Measured
     requires { ⌜ FirstLists kind n (now h) (now w) (now g) ⌝ }
-    ensures { λ r. ⌜ FirstAnswered BestForHeight UnmeetableHeight kind n (limit .0)
+    ensures { λ r. ⌜ FirstAnswered (byHeight kind (limit .0)) n (limit .0)
         (now (h .entry)) (now (w .entry)) (now (g .entry)) (now (out .entry)) (now (work .entry))
         (measuredAnswer r) (now (out .exit)) (now (work .exit)) ⌝ }
 {
@@ -383,7 +382,7 @@ fn first_to_width(
     work: &mut [u32],
 ) -> Measured
     requires { ⌜ FirstLists kind n (now h) (now w) (now g) ⌝ }
-    ensures { λ r. ⌜ FirstAnswered BestForWidth UnmeetableWidth kind n (limit .0)
+    ensures { λ r. ⌜ FirstAnswered (byWidth kind (limit .0)) n (limit .0)
         (now (h .entry)) (now (w .entry)) (now (g .entry)) (now (out .entry)) (now (work .entry))
         (measuredAnswer r) (now (out .exit)) (now (work .exit)) ⌝ }
 {

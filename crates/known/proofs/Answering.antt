@@ -7,8 +7,7 @@ use Rattle.terms.specs.Answer.{refusal, result}
 use Rattle.terms.specs.Component.{mostOf, stackOf}
 use Rattle.terms.proofs.Answers.{stack-is, counted, uncounted}
 use Rattle.stack.specs.File.{checkOf}
-use Rattle.folding.specs.Best.{BestForHeight, BestForWidth, UnmeetableHeight, UnmeetableWidth}
-use Rattle.fold.specs.Calls.{validOf}
+use Rattle.fold.specs.Calls.{validOf, byHeight, byWidth}
 use Rattle.fold.proofs.Checks.{Lent, lent, all-well, refused-alike}
 use Rattle.fold.proofs.OneAnswer.{one-for-height, one-for-width, met-height, met-width, the-best, there-is-none, best-left, none-left, refused-call, measures}
 use Rattle.fold_table.specs.Calls.{tableValidOf}
@@ -17,7 +16,7 @@ use Rattle.known.specs.Known.{Line, to-height, to-width, table, header, 
 
 folds-refuse : (kind : Kind) (file : List ℕ) (limit : ℕ) (out work : List ℕ) (k : ℕ) → validOf kind file limit out work ≡ refusal k → FoldsRefuse kind file limit out work k
 folds-refuse kind file limit out work k e = λ out′ work′ answer.
-    (λ t. refused-call BestForHeight UnmeetableHeight kind limit out work out′ work′ answer k _ e t, λ t. refused-call BestForWidth UnmeetableWidth kind limit out work out′ work′ answer k _ e t)
+    (λ t. refused-call (byHeight kind limit) out work out′ work′ answer k _ e t, λ t. refused-call (byWidth kind limit) out work out′ work′ answer k _ e t)
 
 table-refuses : (kind : Kind) (file out work : List ℕ) (k : ℕ) → tableValidOf kind file work ≡ refusal k → TableRefuses kind file out work k
 table-refuses kind file out work k e = λ out′ work′ answer t. tables.refused-call kind out work out′ work′ answer k _ e t
@@ -35,18 +34,18 @@ refuses kind file k e = record {
 
 pub answers : (l : Line) → Holds l → Answers l
 answers (to-height kind cs limit (refusal k)) h = λ file out work out′ work′ answer v t.
-    let q = there-is-none BestForHeight UnmeetableHeight kind cs limit (one-for-height kind cs limit) (met-height kind cs limit) out work out′ work′ answer _ v t (h .1) in
-    (q ∙ ap refusal (sym (h .0)), none-left BestForHeight UnmeetableHeight kind cs limit (one-for-height kind cs limit) (met-height kind cs limit) out work out′ work′ answer _ v t 9 q)
+    let q = there-is-none (byHeight kind limit) cs (one-for-height kind cs limit) (met-height kind cs limit) out work out′ work′ answer _ v t (h .1) in
+    (q ∙ ap refusal (sym (h .0)), none-left (byHeight kind limit) cs (one-for-height kind cs limit) (met-height kind cs limit) out work out′ work′ answer _ v t 9 q)
 answers (to-height kind cs limit (result o)) h = λ file out work out′ work′ answer v t.
-    let q = the-best BestForHeight UnmeetableHeight kind cs limit (one-for-height kind cs limit) (met-height kind cs limit) out work out′ work′ answer _ v t (h .0) o (h .1) in
-    let s = best-left BestForHeight UnmeetableHeight kind cs limit (one-for-height kind cs limit) (met-height kind cs limit) out work out′ work′ answer _ v t o q in
+    let q = the-best (byHeight kind limit) cs (one-for-height kind cs limit) (met-height kind cs limit) out work out′ work′ answer _ v t (h .0) o (h .1) in
+    let s = best-left (byHeight kind limit) cs (one-for-height kind cs limit) (met-height kind cs limit) out work out′ work′ answer _ v t o q in
     (q, (measures kind file limit out work cs v out′ o (s .2) (s .0 .is-legal) (s .0 .has), s .1))
 answers (to-width kind cs limit (refusal k)) h = λ file out work out′ work′ answer v t.
-    let q = there-is-none BestForWidth UnmeetableWidth kind cs limit (one-for-width kind cs limit) (met-width kind cs limit) out work out′ work′ answer _ v t (h .1) in
-    (q ∙ ap refusal (sym (h .0)), none-left BestForWidth UnmeetableWidth kind cs limit (one-for-width kind cs limit) (met-width kind cs limit) out work out′ work′ answer _ v t 9 q)
+    let q = there-is-none (byWidth kind limit) cs (one-for-width kind cs limit) (met-width kind cs limit) out work out′ work′ answer _ v t (h .1) in
+    (q ∙ ap refusal (sym (h .0)), none-left (byWidth kind limit) cs (one-for-width kind cs limit) (met-width kind cs limit) out work out′ work′ answer _ v t 9 q)
 answers (to-width kind cs limit (result o)) h = λ file out work out′ work′ answer v t.
-    let q = the-best BestForWidth UnmeetableWidth kind cs limit (one-for-width kind cs limit) (met-width kind cs limit) out work out′ work′ answer _ v t (h .0) o (h .1) in
-    let s = best-left BestForWidth UnmeetableWidth kind cs limit (one-for-width kind cs limit) (met-width kind cs limit) out work out′ work′ answer _ v t o q in
+    let q = the-best (byWidth kind limit) cs (one-for-width kind cs limit) (met-width kind cs limit) out work out′ work′ answer _ v t (h .0) o (h .1) in
+    let s = best-left (byWidth kind limit) cs (one-for-width kind cs limit) (met-width kind cs limit) out work out′ work′ answer _ v t o q in
     (q, (measures kind file limit out work cs v out′ o (s .2) (s .0 .is-legal) (s .0 .has), s .1))
 answers (table kind cs os) h = λ file out work out′ work′ answer v t. tables.the-table kind cs os h out work out′ work′ answer _ v t
 answers (header file k) h = λ kind. refuses kind file k (rw h)

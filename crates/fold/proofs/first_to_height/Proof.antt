@@ -1,7 +1,7 @@
 use Rattle.folding.specs.Calls.{measuredAnswer}
 use lib.ListN.{take}
 use Rattle.terms.specs.Component.{componentsIn}
-use Rattle.folding.specs.Best.{BestForHeight, UnmeetableHeight}
+use Rattle.fold.specs.Calls.{byHeight}
 use mathlib.Core.Path.{ap}
 use Rattle.terms.specs.Answer.{countAnswer}
 use lib.Seq.{length-take-le}
@@ -35,7 +35,7 @@ write-low-requires : tie.Need-write-low-requires
 write-low-requires c κs = let a = c .before .before .before .before .before .before .before .before .before .before .before .before .before .args in let q = search-asks (a .kind) (a .n) (a .limit .0) (now (a .h)) (now (a .w)) (now (a .g)) (now (a .out)) (now (a .work)) (c .before .before .before .before .before .before .before .before .before .before .before .before .before .pre) _ (sym (c .before .before .before .before .before .before .before .check-lent .ensures) ∙ ap countAnswer (c .before .before .before .before .before .enum-told .given .1)) in (q .0, omega (arith, q .1), q .2)
 
 returns : tie.Need-returns
-returns c = let a = c .before .before .before .before .before .before .before .before .before .args in first-refused BestForHeight UnmeetableHeight (a .kind) (a .limit .0) (now (a .out)) (now (a .work)) (a .n) _ (componentsIn (take (a .n) (now (a .h))) (take (a .n) (now (a .w))) (take (a .n) (now (a .g)))) (sym (c .before .before .before .check-lent .ensures) ∙ ap countAnswer (c .before .k .given .1))
+returns c = let a = c .before .before .before .before .before .before .before .before .before .args in first-refused (byHeight (a .kind) (a .limit .0)) (a .kind) (a .limit .0) (now (a .out)) (now (a .work)) (a .n) _ (componentsIn (take (a .n) (now (a .h))) (take (a .n) (now (a .w))) (take (a .n) (now (a .g)))) (sym (c .before .before .before .check-lent .ensures) ∙ ap countAnswer (c .before .k .given .1))
 
 same-length : tie.Need-same-length
 same-length c = search needs

@@ -4,7 +4,7 @@ use Rattle.terms.specs.Answer.{countAnswer}
 use lib.Seq.{length-take-le}
 use lib.ListN.{take}
 use Rattle.terms.specs.Component.{componentsIn}
-use Rattle.folding.specs.Best.{BestForWidth, UnmeetableWidth}
+use Rattle.fold.specs.Calls.{byWidth}
 use Rattle.folding.specs.Calls.{measuredAnswer}
 use mathlib.Core.Path.{sym, _∙_}
 use denote.Ref.{now}
@@ -34,7 +34,7 @@ write-slim-requires : tie.Need-write-slim-requires
 write-slim-requires c κs = let a = c .before .before .before .before .before .before .before .before .before .before .before .before .before .args in search-asks (a .kind) (a .n) (a .limit .0) (now (a .h)) (now (a .w)) (now (a .g)) (now (a .out)) (now (a .work)) (c .before .before .before .before .before .before .before .before .before .before .before .before .before .pre) _ (sym (c .before .before .before .before .before .before .before .check-lent .ensures) ∙ ap countAnswer (c .before .before .before .before .before .enum-told .given .1))
 
 returns : tie.Need-returns
-returns c = let a = c .before .before .before .before .before .before .before .before .before .args in first-refused BestForWidth UnmeetableWidth (a .kind) (a .limit .0) (now (a .out)) (now (a .work)) (a .n) _ (componentsIn (take (a .n) (now (a .h))) (take (a .n) (now (a .w))) (take (a .n) (now (a .g)))) (sym (c .before .before .before .check-lent .ensures) ∙ ap countAnswer (c .before .k .given .1))
+returns c = let a = c .before .before .before .before .before .before .before .before .before .args in first-refused (byWidth (a .kind) (a .limit .0)) (a .kind) (a .limit .0) (now (a .out)) (now (a .work)) (a .n) _ (componentsIn (take (a .n) (now (a .h))) (take (a .n) (now (a .w))) (take (a .n) (now (a .g)))) (sym (c .before .before .before .check-lent .ensures) ∙ ap countAnswer (c .before .k .given .1))
 
 same-length : tie.Need-same-length
 same-length c = search needs
@@ -43,7 +43,7 @@ same-length-2 : tie.Need-same-length-2
 same-length-2 c = search needs
 
 returns-2 : tie.Need-returns-2
-returns-2 c = let a = c .before .before .before .before .before .before .before .before .before .before .before .before .before .before .before .before .before .before .args in first-searched (a .kind) (a .n) (a .limit .0) (now (a .h)) (now (a .w)) (now (a .g)) (now (a .out)) (now (a .work)) (c .before .before .before .before .before .before .before .before .before .before .before .before .before .before .before .before .before .before .pre) _ (sym (c .before .before .before .before .before .before .before .before .before .before .before .before .check-lent .ensures) ∙ ap countAnswer (c .before .before .before .before .before .before .before .before .before .before .enum-told .given .1)) BestForWidth UnmeetableWidth (c .before .before .before .before .write-slim .last .1 .1 .1 .1 .1 .0) _ (measuredAnswer (c .before .before .before .before .write-slim .result)) (c .before .before .before .before .write-slim .ensures)
+returns-2 c = let a = c .before .before .before .before .before .before .before .before .before .before .before .before .before .before .before .before .before .before .args in first-searched (a .kind) (a .n) (a .limit .0) (now (a .h)) (now (a .w)) (now (a .g)) (now (a .out)) (now (a .work)) (c .before .before .before .before .before .before .before .before .before .before .before .before .before .before .before .before .before .before .pre) _ (sym (c .before .before .before .before .before .before .before .before .before .before .before .before .check-lent .ensures) ∙ ap countAnswer (c .before .before .before .before .before .before .before .before .before .before .enum-told .given .1)) (byWidth _ _) (c .before .before .before .before .write-slim .last .1 .1 .1 .1 .1 .0) _ (measuredAnswer (c .before .before .before .before .write-slim .result)) (c .before .before .before .before .write-slim .ensures)
 
 pub first-to-width-spec : {M : Type 1} → statement M
 first-to-width-spec =

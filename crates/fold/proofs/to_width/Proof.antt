@@ -4,7 +4,7 @@ use Rattle.terms.specs.Answer.{countAnswer}
 use Rattle.fold.proofs.Answering.{refused-file, of-file}
 use Rattle.fold.proofs.Held.{first-held}
 use Rattle.folding.specs.Calls.{measuredAnswer}
-use Rattle.folding.specs.Best.{BestForWidth, UnmeetableWidth}
+use Rattle.fold.specs.Calls.{byWidth}
 use mathlib.Core.Path.{refl}
 use denote.Ref.{now}
 use borrow.Author.Needs.{needs}
@@ -42,7 +42,7 @@ first-to-width-requires : tie.Need-first-to-width-requires
 first-to-width-requires c κs = first-held (read-held _ _ _ _ _ refl refl refl (c .before .before .before .before .before .before .before .before .before .before .before .read-as .ensures) _ (ap countAnswer (c .before .before .before .before .before .before .n .given .1))) (c .before .before .before .before .before .before .before .before .before .before .before .read-as .kept .1 .1 .0) (c .before .before .before .before .before .before .before .before .before .before .before .read-as .kept .1 .1 .1 .0) (c .before .before .before .before .before .before .before .before .before .before .before .read-as .kept .1 .1 .1 .1 .0)
 
 returns : tie.Need-returns
-returns c = let a = c .before .before .before .before .before .before .before .before .before .before .before .before .before .args in refused-file BestForWidth UnmeetableWidth (a .kind) (a .limit .0) (now (a .out)) (now (a .work)) (now (a .file)) _ (read-refused _ _ _ _ _ refl refl refl (c .before .before .before .before .before .before .read-as .ensures) _ (ap countAnswer (c .before .k .given .1)))
+returns c = let a = c .before .before .before .before .before .before .before .before .before .before .before .before .before .args in refused-file (byWidth (a .kind) (a .limit .0)) (a .kind) (a .limit .0) (now (a .out)) (now (a .work)) (now (a .file)) _ (read-refused _ _ _ _ _ refl refl refl (c .before .before .before .before .before .before .read-as .ensures) _ (ap countAnswer (c .before .k .given .1)))
 
 same-length : tie.Need-same-length
 same-length c = search needs
@@ -51,7 +51,7 @@ same-length-2 : tie.Need-same-length-2
 same-length-2 c = search needs
 
 returns-2 : tie.Need-returns-2
-returns-2 c = let a = c .before .before .before .before .before .before .before .before .before .before .before .before .before .before .before .before .before .before .before .before .before .before .before .args in of-file BestForWidth UnmeetableWidth (a .kind) (a .limit .0) (now (a .out)) (now (a .work)) (read-held _ _ _ _ _ refl refl refl (c .before .before .before .before .before .before .before .before .before .before .before .before .before .before .before .before .read-as .ensures) _ (ap countAnswer (c .before .before .before .before .before .before .before .before .before .before .before .n .given .1))) (c .before .before .before .before .first-to-width .last .1 .1 .1 .1 .1 .1 .0) (c .before .before .before .before .first-to-width .last .1 .1 .1 .1 .1 .1 .1 .0) (measuredAnswer (c .before .before .before .before .first-to-width .result)) (c .before .before .before .before .first-to-width .ensures)
+returns-2 c = let a = c .before .before .before .before .before .before .before .before .before .before .before .before .before .before .before .before .before .before .before .before .before .before .before .args in of-file (byWidth (a .kind) (a .limit .0)) (a .kind) (a .limit .0) (now (a .out)) (now (a .work)) (read-held _ _ _ _ _ refl refl refl (c .before .before .before .before .before .before .before .before .before .before .before .before .before .before .before .before .read-as .ensures) _ (ap countAnswer (c .before .before .before .before .before .before .before .before .before .before .before .n .given .1))) (c .before .before .before .before .first-to-width .last .1 .1 .1 .1 .1 .1 .0) (c .before .before .before .before .first-to-width .last .1 .1 .1 .1 .1 .1 .1 .0) (measuredAnswer (c .before .before .before .before .first-to-width .result)) (c .before .before .before .before .first-to-width .ensures)
 
 pub to-width-spec : {M : Type 1} → statement M
 to-width-spec =
