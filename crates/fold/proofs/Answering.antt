@@ -15,7 +15,8 @@ use Rattle.folding.specs.declared.Outline.{Outline}
 use Rattle.folding.proofs.Measuring.{components-held}
 use Rattle.fold.specs.Calls.{foldChecks, validOf, Wanted, Searched, Answered, byHeight}
 use Rattle.plan.specs.Asks.{Plannable}
-use Rattle.fold.specs.Inner.{FirstLists, Written}
+use Rattle.best.specs.Asks.{Written}
+use Rattle.fold.specs.Inner.{FirstLists}
 use Rattle.fold.proofs.Checks.{Lent, lent, refused-alike, all-well}
 use Rattle.layout.proofs.Groups.{Stacked}
 use Rattle.fold.proofs.Held.{stacked}

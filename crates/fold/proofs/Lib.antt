@@ -1,7 +1,6 @@
 pub mod Checks
 pub mod Held
-pub mod Planning
-pub mod Summing
+pub mod Guesses
 pub mod Limits
 pub mod Answering
 pub mod OneAnswer

@@ -15,8 +15,9 @@ use Rattle.layout.proofs.Widest.{widest-some, none-narrower, flat-enough}
 use Rattle.group.specs.Group.{none}
 use Rattle.fold.specs.Calls.{byHeight, byWidth, Searched}
 use Rattle.plan.specs.Asks.{bestAt}
-use Rattle.fold.specs.declared.Flat.{Flat}
-use Rattle.fold.specs.Inner.{Written, LeastFor, Between, Unfolded}
+use Rattle.best.specs.declared.Flat.{Flat}
+use Rattle.best.specs.Asks.{Written, Unfolded}
+use Rattle.fold.specs.Inner.{LeastFor, Between}
 use Rattle.layout.proofs.Groups.{Stacked}
 
 -- A width that is not under the widest component is not 0.

@@ -1,22 +1,18 @@
 -- What the functions inside this crate promise each other. Nothing here is part of a public promise.
-use Prim.Native.Nat.{ℕ, _+_, _*_, _≤_, _<_}
+use Prim.Native.Nat.{ℕ, _+_, _≤_, _<_}
 use mathlib.Core.Path.{_≡_}
 use mathlib.Core.List.{List}
-use lib.ListN.{length, getD, take, drop}
-use Rattle.terms.specs.Numbers.{mostSize, mostApart, mostLimit}
+use lib.ListN.{length, take}
+use Rattle.terms.specs.Numbers.{mostLimit}
 use Rattle.terms.specs.declared.Component.{Component}
 use Rattle.terms.specs.declared.Kind.{Kind}
-use Rattle.terms.specs.Answer.{Answer, refusal, result}
+use Rattle.terms.specs.Answer.{Answer}
 use Rattle.terms.specs.Component.{componentsIn}
 use Rattle.folding.specs.declared.Outline.{Outline}
-use Rattle.folding.specs.Placement.{placementsOf}
-use Rattle.group.specs.Group.{none, widest, flatHeight}
 use Rattle.layout.specs.Layout.{layoutOf}
 use Rattle.layout.specs.Plan.{StackLists}
-use Rattle.layout.proofs.Folds.{Folds}
-use Rattle.plan.specs.Asks.{Plannable, PlanAsks, bestAt}
+use Rattle.plan.specs.Asks.{PlanAsks}
 use Rattle.plan.specs.Memory.{Known}
-use Rattle.fold.specs.declared.Flat.{Flat}
 use Rattle.fold.specs.declared.Least.{Least}
 use Rattle.fold.specs.Calls.{foldChecks, Wanted, Answered}
 
@@ -28,29 +24,12 @@ pub record FirstLists (kind : Kind) (n : ℕ) (hs ws gs : List ℕ) : Type 0 whe
   pub some : 0 < n
   pub lists : StackLists kind (take n hs) (take n ws) (take n gs)
 
--- A stack in three lists, with room to plan it and for its placements.
-abbrev pub Foldable : Kind → ℕ → List ℕ → List ℕ → List ℕ → List ℕ → List ℕ → Type 0
-Foldable kind limit hs ws gs out work = Plannable kind hs ws gs work × (limit ≤ mostLimit) × (3 * length hs ≤ length out)
-
--- With three lists for its plan, which with the work buffer hold one for `known` if that is over the limit.
-abbrev pub Replannable : Kind → ℕ → ℕ → List ℕ → List ℕ → List ℕ → List ℕ → List ℕ → List ℕ → List ℕ → Type 0
-Replannable kind known limit hs ws gs widths heights ends work =
-    PlanAsks kind limit hs ws gs widths heights ends work × Known kind known limit hs ws gs widths heights ends work
-
 -- What a fold call answers for the stack in the first n entries of three lists: its checks behind the file's own refusals,
 -- and then the search.
 abbrev pub FirstAnswered : Wanted → ℕ → ℕ → List ℕ → List ℕ → List ℕ → List ℕ → List ℕ → Answer Outline → List ℕ → List ℕ → Type 0
 FirstAnswered wanted n limit hs ws gs out work answer out′ work′ =
     Answered wanted out work out′ work′ answer
     (foldChecks limit (length out) (length work) n (componentsIn (take n hs) (take n ws) (take n gs)))
-
--- A folding with that outline is written where there is one.
-abbrev pub Written : Kind → List Component → ℕ → List ℕ → List ℕ → Answer Outline → Type 0
-Written kind cs limit out out′ (refusal k) = (k ≡ 9) × (none ≤ layoutOf kind limit 0 cs .width) × (out′ ≡ out)
-Written kind cs limit out out′ (result o) =
-    (o ≡ bestAt kind limit cs) × (layoutOf kind limit 0 cs .width < none)
-    × Folds kind 0 0 cs (placementsOf out′ (length cs)) (layoutOf kind limit 0 cs .width) (layoutOf kind limit 0 cs .height)
-    × (drop (3 * length cs) out′ ≡ drop (3 * length cs) out) × (length out′ ≡ length out)
 
 -- The least height for which the best layout is at most w wide.
 pub record LeastFor (kind : Kind) (cs : List Component) (w limit : ℕ) : Type 0 where
@@ -76,21 +55,3 @@ pub record LeastAsks (kind : Kind) (hs ws gs widths heights ends work : List ℕ
 pub record LeastFound (kind : Kind) (hs ws gs widths heights ends work : List ℕ) (w : ℕ) (least : Least) : Type 0 where
   pub least-for : LeastFor kind (componentsIn hs ws gs) w (least .limit .0)
   pub held : Known kind (least .known .0) 0 hs ws gs widths heights ends work
-
--- The heights and widths of a stack, whatever its gaps.
-pub record CellsAsk (hs ws : List ℕ) : Type 0 where
-  pub few : length hs ≤ mostApart
-  pub same : length ws ≡ length hs
-  pub low : (i : ℕ) → getD hs i 0 ≤ mostSize
-  pub slim : (i : ℕ) → getD ws i 0 ≤ mostSize
-
--- No stack has more rows times slices in its components.
-abbrev pub mostArea : ℕ
-mostArea = mostApart * mostSize * mostSize
-
--- A stack without a fold.
-pub record Unfolded (cs : List Component) (f : Flat) : Type 0 where
-  pub widest-is : f .widest .0 ≡ widest cs
-  pub height-is : f .height .0 ≡ flatHeight 0 cs
-  pub low : f .height .0 ≤ mostLimit
-  pub area-most : f .area ≤ mostArea

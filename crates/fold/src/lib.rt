@@ -1,20 +1,18 @@
 // Fold to height and fold to width.
 ghost use mathlib.Core.Path.{_≡_};
 ghost use Prim.Native.Nat.{_*_, _≤_, _<_};
-ghost use lib.ListN.{length};
 ghost use Rattle.terms.specs.Numbers.{mostLimit};
-ghost use Rattle.terms.specs.declared.Kind.the-variants.{Apart};
 ghost use Rattle.terms.specs.Answer.{countAnswer};
 ghost use Rattle.terms.specs.Component.{componentsIn};
 ghost use Rattle.folding.specs.Calls.{measuredAnswer};
-ghost use Rattle.layout.specs.Plan.{StackLists};
-ghost use Rattle.fold.specs.Calls.{foldChecks, byHeight, byWidth, Searched, ToHeight, ToWidth};
-ghost use Rattle.fold.specs.Inner.{FirstLists, Foldable, FirstAnswered, Written};
-ghost use Rattle.fold.specs.Inner.{Replannable, LeastFound, LeastAsks, CellsAsk, mostArea, Unfolded};
+ghost use Rattle.best.specs.Asks.{Foldable, Written, mostArea};
+ghost use Rattle.fold.specs.Calls.{lentChecks, foldChecks, byHeight, byWidth, Searched, ToHeight, ToWidth};
+ghost use Rattle.fold.specs.Inner.{FirstLists, FirstAnswered, LeastFound, LeastAsks};
+use best::long;
+use best::product;
 use folding::Measured;
 use folding::Outline;
 use group::NONE;
-use numbers::get;
 use plan::LISTED;
 use terms::Counted;
 use terms::Kind;
@@ -42,29 +40,16 @@ const SECOND_RISE: u32 = 16;
 
 const LATER_RISE: u32 = 4;
 
-// A stack without a fold: its widest component, its height, and the rows times slices of all its components.
-struct Flat {
-    widest: Slices,
-    height: Rows,
-    area: u64,
-}
-
 // What a search for a height found, and the limit of the plan that its lists hold. That is 0 where they hold none.
 struct Least {
     limit: Rows,
     known: Rows,
 }
 
-// Refusals 7 and 8 of a fold call, with buffers of these lengths lent.
-fn check_lent(n: usize, limit: u32, out: usize, work: usize) -> Counted
-    ensures { λ r. ⌜ countAnswer r ≡ foldChecks limit out work n n ⌝ }
+// Refusal 8 of a call that writes a folding, with buffers of these lengths lent.
+pub fn check_room(n: usize, out: usize, work: usize) -> Counted
+    ensures { λ r. ⌜ countAnswer r ≡ lentChecks out work n n ⌝ }
 {
-    if limit < 1 {
-        return Counted::Refused(Refusal::BadLimit);
-    }
-    if MOST_LIMIT < limit {
-        return Counted::Refused(Refusal::BadLimit);
-    }
     if out / 3 < n {
         return Counted::Refused(Refusal::ShortBuffer);
     }
@@ -74,32 +59,17 @@ fn check_lent(n: usize, limit: u32, out: usize, work: usize) -> Counted
     Counted::Count(n)
 }
 
-// Writes a folding with the outline of the best layout for a height, where the lists hold a plan for the limit `known`.
-fn write_best(
-    kind: Kind,
-    known: Rows,
-    limit: Rows,
-    h: &[u16],
-    w: &[u16],
-    g: &[u16],
-    widths: &mut [u32],
-    heights: &mut [u32],
-    ends: &mut [u32],
-    out: &mut [u32],
-    work: &mut [u32],
-) -> Measured
-    requires { ⌜ Foldable kind (limit .0) (now h) (now w) (now g) (now out) (now work) ⌝ }
-    requires { ⌜ Replannable kind (known .0) (limit .0)
-        (now h) (now w) (now g) (now widths) (now heights) (now ends) (now work) ⌝ }
-    ensures { λ r. ⌜ Written kind (componentsIn (now (h .entry)) (now (w .entry)) (now (g .entry))) (limit .0)
-        (now (out .entry)) (now (out .exit)) (measuredAnswer r) ⌝ }
+// Refusals 7 and 8 of a fold call.
+fn check_lent(n: usize, limit: u32, out: usize, work: usize) -> Counted
+    ensures { λ r. ⌜ countAnswer r ≡ foldChecks limit out work n n ⌝ }
 {
-    let o = plan::replan(kind, known, limit, h, w, g, widths, heights, ends, work);
-    if NONE <= o.width.0 {
-        return Measured::Refused(Refusal::Unmeetable);
+    if limit < 1 {
+        return Counted::Refused(Refusal::BadLimit);
     }
-    trace::trace(kind, 0, Rows(0), h, w, g, widths, ends, out, work);
-    Measured::Outlined(o)
+    if MOST_LIMIT < limit {
+        return Counted::Refused(Refusal::BadLimit);
+    }
+    check_room(n, out, work)
 }
 
 // The narrowest folding within a height, and of those the lowest.
@@ -119,7 +89,7 @@ fn write_low(
     let mut wide = [0u32; LISTED];
     let mut high = [0u32; LISTED];
     let mut ends = [0u32; LISTED];
-    write_best(
+    best::write_best(
         kind,
         Rows(0),
         limit,
@@ -134,51 +104,11 @@ fn write_low(
     )
 }
 
-fn long(x: u32) -> u64
-    ensures { λ r. ⌜ (r ≡ x) × (r < 4294967296) ⌝ }
+// The height to try first: the components' cells at the width asked, and what stays empty.
+fn first_guess(cells: u64, most: Slices) -> u64
+    requires { ⌜ (cells ≤ mostArea) × (0 < most .0) ⌝ }
 {
-    x as u64
-}
-
-fn product(a: u32, b: u32) -> u64
-    ensures { λ r. ⌜ r ≡ a * b ⌝ }
-{
-    long(a) * long(b)
-}
-
-// The rows times slices of all components.
-fn area_of(h: &[u16], w: &[u16]) -> u64
-    requires { ⌜ CellsAsk (now h) (now w) ⌝ }
-    ensures { λ r. ⌜ r ≤ mostArea ⌝ }
-{
-    let n = h.len();
-    let mut area = 0;
-    let mut k = 0;
-    while k < n {
-        area += product(get(h, k), get(w, k));
-        k += 1;
-    }
-    area
-}
-
-fn flat_of(h: &[u16], w: &[u16], g: &[u16]) -> Flat
-    requires { ⌜ StackLists Apart (now h) (now w) (now g) × (0 < length (now h)) ⌝ }
-    ensures { λ r. ⌜ Unfolded (componentsIn (now (h .entry)) (now (w .entry)) (now (g .entry))) r ⌝ }
-{
-    let n = h.len();
-    let sizes = plan::sizes_of(h, w, n);
-    Flat {
-        widest: Slices(sizes.widest.0),
-        height: Rows(sizes.tall.0 + get(g, n - 1)),
-        area: area_of(h, w),
-    }
-}
-
-// The height to try first: the components' area at the width asked, and what stays empty.
-fn first_guess(area: u64, most: Slices) -> u64
-    requires { ⌜ (area ≤ mostArea) × (0 < most .0) ⌝ }
-{
-    let rows = area / long(most.0);
+    let rows = cells / long(most.0);
     rows + rows / SPARE
 }
 
@@ -312,11 +242,11 @@ fn write_slim(
         (componentsIn (now (h .entry)) (now (w .entry)) (now (g .entry)))
         (now (out .entry)) (now (out .exit)) (measuredAnswer r) ⌝ }
 {
-    let flat = flat_of(h, w, g);
+    let flat = best::flat_of(h, w, g);
     if most.0 < flat.widest.0 {
         return Measured::Refused(Refusal::Unmeetable);
     }
-    let first = first_guess(flat.area, most);
+    let first = first_guess(flat.cells, most);
     let mut wide = [0u32; LISTED];
     let mut high = [0u32; LISTED];
     let mut ends = [0u32; LISTED];
@@ -333,7 +263,7 @@ fn write_slim(
         &mut ends,
         work,
     );
-    write_best(
+    best::write_best(
         kind,
         least.known,
         least.limit,

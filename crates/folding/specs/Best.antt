@@ -1,6 +1,6 @@
 -- What "best" means (document 01, "Calls"; demand 3): over legal foldings and their outlines only, for every placement list
 -- of the stack and kind.
-use Prim.Native.Nat.{ℕ, _≤_, _<_}
+use Prim.Native.Nat.{ℕ, _*_, _≤_, _<_}
 use mathlib.Core.Path.{_≡_}
 use mathlib.Core.Logic.{_⊎_}
 use mathlib.Core.List.{List, [], _∷_}
@@ -29,6 +29,14 @@ Wider o other = (o .width .0 < other .width .0) ⊎ ((o .width .0 ≡ other .wid
 -- "higher, or as high and at least as wide"
 abbrev pub Higher : Outline → Outline → Type 0
 Higher o other = (o .height .0 < other .height .0) ⊎ ((o .height .0 ≡ other .height .0) × (o .width .0 ≤ other .width .0))
+
+-- Ticket 1: "width times height".
+abbrev pub areaOf : Outline → ℕ
+areaOf o = o .width .0 * o .height .0
+
+-- "least, the narrower of equals": beside o the other has a greater area, or an equal one and is at least as wide.
+abbrev pub Larger : Outline → Outline → Type 0
+Larger o other = (areaOf o < areaOf other) ⊎ ((areaOf o ≡ areaOf other) × (o .width .0 ≤ other .width .0))
 
 -- "wider, or higher, or equal in both"
 abbrev pub Other : Outline → Outline → Type 0
@@ -63,6 +71,13 @@ module _ (kind : Kind) (cs : List Component) where
 
   abbrev pub UnmeetableWidth : ℕ → Type 0
   UnmeetableWidth w = (ps : List Placement) → Legal kind cs ps → keepsWidth w ps → ⊥
+
+  -- Ticket 1: "the outline whose width times height is least, the narrower of equals, with a folding that has it"; "against each
+  -- legal folding of the stack and kind, listed in the outline table or not".
+  pub record SmallestArea (ps : List Placement) (o : Outline) : Type 0 where
+    pub is-legal : Legal kind cs ps
+    pub has : outlineOf cs ps ≡ o
+    pub smallest : (other : List Placement) → Legal kind cs other → Larger o (outlineOf cs other)
 
   -- "An outline is unbeaten when a legal folding has it and every other legal folding of that stack and kind is wider, or
   -- higher, or equal in both."

@@ -10,4 +10,5 @@ pub mod Transfer
 pub mod Best
 pub mod Table
 pub mod Fuel
+pub mod Area
 pub mod Example

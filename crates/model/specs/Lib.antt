@@ -3,4 +3,5 @@ pub mod Layout
 pub mod Laws
 pub mod Outlines
 pub mod Search
+pub mod Area
 pub mod Example

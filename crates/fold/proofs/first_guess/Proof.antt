@@ -11,7 +11,7 @@ div-rows : tie.Need-div-rows
 div-rows c = search needs
 
 add-result : tie.Need-add-result
-add-result c = omega (arith, div-le-self (c .before .args .area) (c .long .result), c .before .pre .0)
+add-result c = omega (arith, div-le-self (c .before .args .cells) (c .long .result), c .before .pre .0)
 
 returns : tie.Need-returns
 returns c = search needs

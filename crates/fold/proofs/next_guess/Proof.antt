@@ -1,4 +1,4 @@
-use Rattle.fold.proofs.Summing.{guess-fits}
+use Rattle.fold.proofs.Guesses.{guess-fits}
 use native.Mathlib.Omega.{arith}
 use borrow.Author.Needs.{needs}
 use Rattle.fold.proofs.next_guess.Statement.{statement}

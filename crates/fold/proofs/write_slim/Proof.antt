@@ -1,8 +1,8 @@
 use mathlib.Core.Path.{refl}
 use Rattle.fold.proofs.Limits.{too-slim, slim-some, starts, to-width}
 use Rattle.fold.proofs.Held.{stacked}
-use Rattle.fold.proofs.Summing.{any-kind}
-use Rattle.fold.proofs.Planning.{plannable-again}
+use Rattle.best.proofs.Summing.{any-kind}
+use Rattle.best.proofs.Planning.{plannable-again}
 use Rattle.folding.specs.Calls.{measuredAnswer}
 use Rattle.plan.proofs.Outlines.{plan-asks}
 use native.Mathlib.Omega.{arith}
@@ -17,7 +17,7 @@ returns : tie.Need-returns
 returns c = too-slim _ _ (stacked _ _ _ _ (c .before .before .before .before .before .before .before .before .before .pre .0 .lists) (c .before .before .before .before .before .before .before .before .before .pre .0 .some)) _ (c .before .before .before .before .before .before .before .before .before .pre .1) _ _ (c .before .before .before .flat-of .ensures) (c .if1 .taken)
 
 first-guess-requires : tie.Need-first-guess-requires
-first-guess-requires c κs = (c .before .before .before .flat-of .ensures .area-most, slim-some (stacked _ _ _ _ (c .before .before .before .before .before .before .before .before .before .pre .0 .lists) (c .before .before .before .before .before .before .before .before .before .pre .0 .some)) (c .before .before .before .flat-of .ensures) _ (c .if1 .left))
+first-guess-requires c κs = (c .before .before .before .flat-of .ensures .cells-most, slim-some (stacked _ _ _ _ (c .before .before .before .before .before .before .before .before .before .pre .0 .lists) (c .before .before .before .before .before .before .before .before .before .pre .0 .some)) (c .before .before .before .flat-of .ensures) _ (c .if1 .left))
 
 slice-aggregate-least-height : tie.Need-slice-aggregate-least-height
 slice-aggregate-least-height c = search needs

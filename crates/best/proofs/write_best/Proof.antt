@@ -1,9 +1,9 @@
 use mathlib.Core.Path.{refl}
-use Rattle.fold.proofs.Planning.{unmet, trace-asks, written}
+use Rattle.best.proofs.Planning.{unmet, trace-asks, written}
 use native.Mathlib.Omega.{arith}
 use borrow.Author.Needs.{needs}
-use Rattle.fold.proofs.write_best.Statement.{statement}
-use Rattle.fold.proofs.write_best.Tie as tie
+use Rattle.best.proofs.write_best.Statement.{statement}
+use Rattle.best.proofs.write_best.Tie as tie
 
 replan-requires : tie.Need-replan-requires
 replan-requires c κs = search needs

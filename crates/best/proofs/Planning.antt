@@ -13,7 +13,7 @@ use Rattle.layout.specs.Layout.{layoutOf}
 use Rattle.folding.specs.declared.Outline.{Outline}
 use Rattle.trace.specs.Trace.{TraceAsks, Traced}
 use Rattle.plan.specs.Asks.{Plannable, PlanDone}
-use Rattle.fold.specs.Inner.{Written}
+use Rattle.best.specs.Asks.{Written}
 
 pub plannable-again : {kind : Kind} {hs ws gs work work′ : List ℕ} → Plannable kind hs ws gs work → length work′ ≡ length work → Plannable kind hs ws gs work′
 plannable-again a e = record { lists = a .lists; some = a .some; room = omega (arith, a .room) }

@@ -1,8 +1,8 @@
-use Rattle.fold.proofs.Summing.{product-fits}
+use Rattle.best.proofs.Summing.{product-fits}
 use native.Mathlib.Omega.{arith}
 use borrow.Author.Needs.{needs}
-use Rattle.fold.proofs.product.Statement.{statement}
-use Rattle.fold.proofs.product.Tie as tie
+use Rattle.best.proofs.product.Statement.{statement}
+use Rattle.best.proofs.product.Tie as tie
 
 long-requires : tie.Need-long-requires
 long-requires c κs = search needs
