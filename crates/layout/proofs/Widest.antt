@@ -38,7 +38,7 @@ unfolding widest
 widest-some [] s n = absurd (omega arith)
 widest-some (x ∷ cs) s n = omega (arith, s .0 .width-some)
 
-widest-most : (cs : List Component) → AllSized cs → widest cs ≤ mostSize
+pub widest-most : (cs : List Component) → AllSized cs → widest cs ≤ mostSize
 unfolding widest
 widest-most [] s = omega arith
 widest-most (x ∷ cs) s = omega (arith, s .0 .width-most, widest-most cs (s .1))

@@ -3,7 +3,7 @@ use Prim.Native.Nat.{ℕ, _+_, _-_, _*_, _/_, _≤_, _<_}
 use mathlib.Core.Path.{_≡_, refl, ap}
 use mathlib.Core.Logic.{_⊎_, inl, inr}
 use mathlib.Core.Bool.{Bool, true, false, cond}
-use native.Mathlib.Nat.{mul-le-mul, mul-le-mul-left, mul-le-mul-right, mul-comm, mul-add, le-of-mul-le-mul-left, lt-mul-div-succ, div-lt-iff-lt-mul}
+use native.Mathlib.Nat.{mul-le-mul, mul-le-mul-left, mul-le-mul-right, mul-comm, mul-add, le-of-mul-le-mul-left, lt-mul-div-succ, div-lt-iff-lt-mul, div-le-of-le-mul}
 use native.Mathlib.Omega.{arith}
 use lib.Dec.{leb, ltb}
 use borrow.Author.Tests.{leb-true, ltb-true, ltb-false}
@@ -30,7 +30,7 @@ no-larger o x (inl h) = omega arith
 no-larger o x (inr h) = omega (arith, h .0)
 
 -- The smaller of two is one of them, and its area is at most either's.
-smaller-either : (C : Outline → Type 0) (a b : Outline) → (areaOf a < areaOf b → C a) → (areaOf b ≤ areaOf a → C b) → C (smallerOf a b)
+pub smaller-either : (C : Outline → Type 0) (a b : Outline) → (areaOf a < areaOf b → C a) → (areaOf b ≤ areaOf a → C b) → C (smallerOf a b)
 smaller-either C a b = go (ltb (areaOf a) (areaOf b)) refl
   where
     go : (t : Bool) → ltb (areaOf a) (areaOf b) ≡ t → (areaOf a < areaOf b → C a) → (areaOf b ≤ areaOf a → C b) → C (cond t a b)
@@ -58,18 +58,25 @@ limit-falls o w h cells a p = go (leb (areaOf o) cells) refl
         let more : areaOf o - 1 < h * (w + 1) = omega (arith, mul-comm w h, mul-add h w 1) in
         div-lt-iff-lt-mul {k = w + 1} (omega arith) .1 more
 
-module _ {F : Type 0} {Legal : F → Type 0} {outlineOf : F → Outline} {best : ℕ → Layout} (s : Search Legal outlineOf best) where
-  -- No folding above the limit is smaller than o, and none within it is narrower. The height of o is limit enough for its width.
-  pub record Leads (o : Outline) (limit : ℕ) : Type 0 where
-    pub wide : 0 < o .width .0
-    pub above : (f : F) → Legal f → limit < outlineOf f .height .0 → Larger o (outlineOf f)
-    pub slim : (f : F) → Legal f → outlineOf f .height .0 ≤ limit → o .width .0 ≤ outlineOf f .width .0
-    pub reached : best (o .height .0) .width ≤ o .width .0
+pub limit-first : (o : Outline) (w h cells : ℕ) → areaOf o ≤ w * h → nextLimit o w cells ≤ h
+limit-first o w h cells a = go (leb (areaOf o) cells)
+  where
+    go : (t : Bool) → cond t 0 ((areaOf o - 1) / w) ≤ h
+    go true = omega arith
+    go false = let less : areaOf o - 1 ≤ w * h = omega arith in div-le-of-le-mul w less
 
+-- No folding above the limit is smaller than o, and none within it is narrower. The height of o is limit enough for its width.
+pub record Leads {F : Type 0} (Legal : F → Type 0) (outlineOf : F → Outline) (best : ℕ → Layout) (o : Outline) (limit : ℕ) : Type 0 where
+  pub wide : 0 < o .width .0
+  pub above : (f : F) → Legal f → limit < outlineOf f .height .0 → Larger o (outlineOf f)
+  pub slim : (f : F) → Legal f → outlineOf f .height .0 ≤ limit → o .width .0 ≤ outlineOf f .width .0
+  pub reached : best (o .height .0) .width ≤ o .width .0
+
+module _ {F : Type 0} {Legal : F → Type 0} {outlineOf : F → Outline} {best : ℕ → Layout} (s : Search Legal outlineOf best) where
   module _ (cells : ℕ) (most : (f : F) → Legal f → cells ≤ areaOf (outlineOf f)) where
     -- As wide as every folding must be.
     pub leads-first : (o : Outline) → 0 < o .width .0 → ((f : F) → Legal f → o .width .0 ≤ outlineOf f .width .0) → best (o .height .0) .width ≤ o .width .0
-        → Leads o (nextLimit o (o .width .0) cells)
+        → Leads Legal outlineOf best o (nextLimit o (o .width .0) cells)
     leads-first o p n r = record {
       wide = p;
       above = λ f l h. skipped o (outlineOf f) (o .width .0) cells p (omega arith) (n f l) (most f l) h;
@@ -77,7 +84,7 @@ module _ {F : Type 0} {Legal : F → Type 0} {outlineOf : F → Outline} {best :
       reached = r;
     }
 
-    module _ (o : Outline) (limit : ℕ) (i : Leads o limit) (met : best limit .width < none) where
+    module _ (o : Outline) (limit : ℕ) (i : Leads Legal outlineOf best o limit) (met : best limit .width < none) where
       abbrev here : Outline
       here = outlineBy (best limit)
 
@@ -87,14 +94,11 @@ module _ {F : Type 0} {Legal : F → Type 0} {outlineOf : F → Outline} {best :
       slim-here : o .width .0 ≤ best limit .width
       slim-here = let r = s .some limit met in rw (r .2) at (i .slim (r .0) (r .1) (rw (r .2) (s .keeps limit met)))
 
-      next-slim : next .width .0 ≤ best limit .width
+      pub next-slim : next .width .0 ≤ best limit .width
       next-slim = smaller-either (λ x. x .width .0 ≤ best limit .width) here o (λ h. omega arith) (λ h. slim-here)
 
-      next-small : areaOf next ≤ best limit .width * best limit .height
+      pub next-small : areaOf next ≤ best limit .width * best limit .height
       next-small = smaller-either (λ x. areaOf x ≤ best limit .width * best limit .height) here o (λ h. omega arith) (λ h. h)
-
-      next-smaller : areaOf next ≤ areaOf o
-      next-smaller = smaller-either (λ x. areaOf x ≤ areaOf o) here o (λ h. omega arith) (λ h. omega arith)
 
       next-wide : 0 < next .width .0
       next-wide = smaller-either (λ x. 0 < x .width .0) here o (λ h. omega (arith, slim-here, i .wide)) (λ h. i .wide)
@@ -118,7 +122,7 @@ module _ {F : Type 0} {Legal : F → Type 0} {outlineOf : F → Outline} {best :
           go (inl k) = within (s .every limit f l k .0)
           go (inr k) = higher (i .above f l k)
 
-      pub leads-on : Leads next (nextLimit next (best limit .width + 1) cells)
+      pub leads-on : Leads Legal outlineOf best next (nextLimit next (best limit .width + 1) cells)
       leads-on = record {
         wide = next-wide;
         above = above-next;
@@ -127,7 +131,7 @@ module _ {F : Type 0} {Legal : F → Type 0} {outlineOf : F → Outline} {best :
       }
 
   -- The pass ends where no folding is within the limit.
-  pub leads-all : (o : Outline) (limit : ℕ) → Leads o limit → ((f : F) → Legal f → outlineOf f .height .0 ≤ limit → ⊥) → (f : F) → Legal f → Larger o (outlineOf f)
+  pub leads-all : (o : Outline) (limit : ℕ) → Leads Legal outlineOf best o limit → ((f : F) → Legal f → outlineOf f .height .0 ≤ limit → ⊥) → (f : F) → Legal f → Larger o (outlineOf f)
   leads-all o limit i unmet f l = go (order (outlineOf f .height .0) limit)
     where
       go : (outlineOf f .height .0 ≤ limit) ⊎ (limit < outlineOf f .height .0) → Larger o (outlineOf f)
@@ -135,7 +139,7 @@ module _ {F : Type 0} {Legal : F → Type 0} {outlineOf : F → Outline} {best :
       go (inr h) = i .above f l h
 
   -- What leads then is the best for its own height.
-  module _ (o : Outline) (limit : ℕ) (i : Leads o limit) (all : (f : F) → Legal f → Larger o (outlineOf f)) (low : o .width .0 < none) where
+  module _ (o : Outline) (limit : ℕ) (i : Leads Legal outlineOf best o limit) (all : (f : F) → Legal f → Larger o (outlineOf f)) (low : o .width .0 < none) where
     abbrev own : Layout
     own = best (o .height .0)
 

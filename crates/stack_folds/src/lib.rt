@@ -15,6 +15,7 @@ ghost use Rattle.stack.specs.Calls.{Read, lookupOf};
 ghost use Rattle.stack_write.specs.Call.{Wrote};
 ghost use Rattle.folding.specs.Calls.{measuredAnswer, measureOf, winnerIs, chooseOf};
 ghost use Rattle.fold.specs.Calls.{ToHeight, ToWidth};
+ghost use Rattle.fold_area.specs.Calls.{SmallestOf};
 ghost use Rattle.fold_table.specs.Calls.{TableOf};
 ghost use Rattle.stack_folds.specs.Codes.{kindOf, countCode, outlineCode, partCode, choiceCode, chosenPart};
 ghost use Rattle.stack_folds.specs.Codes.{countOfCode, outlineOfCode, PlainCount, PlainOutline};
@@ -210,6 +211,21 @@ pub extern "C" fn folds_to_width(
 {
     let kind = kind_of(nested);
     measured(fold::to_width(file, kind, Slices(limit), placements, work))
+}
+
+#[no_mangle]
+pub extern "C" fn folds_smallest_area(
+    file: &[u8],
+    nested: bool,
+    placements: &mut [u32],
+    work: &mut [u32],
+) -> Extent
+    ensures { λ r. ⌜ SmallestOf (kindOf nested) (now (file .entry))
+        (now (placements .entry)) (now (work .entry)) (outlineOfCode r) (now (placements .exit)) (now (work .exit)) ⌝ }
+    ensures { λ r. ⌜ PlainOutline r ⌝ }
+{
+    let kind = kind_of(nested);
+    measured(fold_area::smallest_area(file, kind, placements, work))
 }
 
 #[no_mangle]
