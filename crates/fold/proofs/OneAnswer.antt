@@ -90,7 +90,7 @@ module _ (wanted : Wanted) (out work out′ work′ : List ℕ) (answer : Answer
 
 -- A folding that a call writes measures to the outline that it gives.
 module _ (kind : Kind) (file : List ℕ) (limit : ℕ) (out work : List ℕ) (cs : List Component) (v : validOf kind file limit out work ≡ result cs) where
-  valid-file : (checkOf kind file ≡ result cs) × (length cs ≤ length out / 3)
+  pub valid-file : (checkOf kind file ≡ result cs) × (length cs ≤ length out / 3)
   valid-file =
       let w = went-on (checkOf kind file) (λ ds. foldChecks limit (length out) (length work) (length ds) ds) cs v in
       let e : w .0 ≡ cs = handed-on limit (length out) (length work) (length (w .0)) (w .0) cs (w .2) in

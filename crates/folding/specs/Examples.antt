@@ -39,7 +39,7 @@ stack-C = c 1 1 5 ∷ c 1 1 0 ∷ []
 abbrev stack-D : List Component
 stack-D = c 5 9 0 ∷ c 1 1 0 ∷ c 5 9 0 ∷ c 1 1 0 ∷ c 4 9 0 ∷ c 1 1 0 ∷ []
 
-abbrev stack-E : List Component
+abbrev pub stack-E : List Component
 stack-E = c 1 3 0 ∷ c 1 1 0 ∷ c 1 1 0 ∷ c 1 3 0 ∷ []
 
 abbrev stack-F : List Component
@@ -77,7 +77,7 @@ D-nested-10-14 : Folds Nested stack-D (p 0 0 9 ∷ p 0 0 5 ∷ p 0 0 0 ∷ p 0 1
 unfolding placedOf legal each eachPair groupsOf topOf rowSum greatest lastGap folded foldGap layoutWidth layoutHeight
 D-nested-10-14 = record { is-legal = record { whole = refl; rules = refl }; has = refl }
 
-E-apart-3-4 : Folds Apart stack-E (p 0 0 3 ∷ p 0 0 2 ∷ p 0 0 1 ∷ p 0 0 0 ∷ []) 3 4
+pub E-apart-3-4 : Folds Apart stack-E (p 0 0 3 ∷ p 0 0 2 ∷ p 0 0 1 ∷ p 0 0 0 ∷ []) 3 4
 unfolding placedOf legal each eachPair groupsOf topOf rowSum greatest lastGap folded foldGap layoutWidth layoutHeight
 E-apart-3-4 = record { is-legal = record { whole = refl; rules = refl }; has = refl }
 

@@ -1,7 +1,7 @@
--- What "best", "unmeetable" and "unbeaten" rule out: a legal folding of w slices and h rows is a rival that no claim
+-- What "best", "unmeetable", "smallest" and "unbeaten" rule out: a legal folding of w slices and h rows is a rival that no claim
 -- outlives.
-use Prim.Native.Nat.{ℕ, _≤_, _<_}
-use mathlib.Core.Path.{_≡_, refl, ap}
+use Prim.Native.Nat.{ℕ, _*_, _≤_, _<_}
+use mathlib.Core.Path.{_≡_, refl, ap, subst}
 use mathlib.Core.Logic.{_⊎_, inl, inr}
 use mathlib.Core.List.{List}
 use native.Mathlib.Omega.{arith}
@@ -11,8 +11,8 @@ use Rattle.terms.specs.declared.Kind.the-variants.{Apart}
 use Rattle.folding.specs.declared.Placement.{Placement}
 use Rattle.folding.specs.declared.Outline.{Outline}
 use Rattle.folding.specs.Outline.{outlineOf}
-use Rattle.folding.specs.Best.{Wider, Higher, Other, BestForHeight, BestForWidth, UnmeetableHeight, UnmeetableWidth, Unbeaten}
-use Rattle.folding.specs.Examples.{Folds, stack-A, stack-B, A-apart-2-3, B-apart-1-10, B-apart-3-4}
+use Rattle.folding.specs.Best.{Wider, Higher, Larger, Other, BestForHeight, BestForWidth, UnmeetableHeight, UnmeetableWidth, SmallestArea, Unbeaten}
+use Rattle.folding.specs.Examples.{Folds, stack-A, stack-B, stack-E, A-apart-2-3, B-apart-1-10, B-apart-3-4, E-apart-3-4}
 
 abbrev o : ℕ → ℕ → Outline
 o w h = record { width = record { 0 = w }; height = record { 0 = h } }
@@ -50,6 +50,15 @@ module _ {kind : Kind} {cs : List Component} {qs : List Placement} {w h : ℕ} (
   not-too-narrow : UnmeetableWidth kind cs w → ⊥
   not-too-narrow u = u qs (f .is-legal) (omega (arith, wide))
 
+  not-smallest : (w′ h′ : ℕ) (ps : List Placement) → (w * h < w′ * h′) ⊎ ((w * h ≡ w′ * h′) × (w < w′)) → SmallestArea kind cs ps (o w′ h′) → ⊥
+  not-smallest w′ h′ ps r b = go r (subst (Larger (o w′ h′)) (f .has) (b .smallest qs (f .is-legal)))
+    where
+      go : (w * h < w′ * h′) ⊎ ((w * h ≡ w′ * h′) × (w < w′)) → Larger (o w′ h′) (o w h) → ⊥
+      go (inl x) (inl y) = omega arith
+      go (inl x) (inr y) = omega (arith, y .0)
+      go (inr x) (inl y) = omega (arith, x .0)
+      go (inr x) (inr y) = omega (arith, x .1, y .1)
+
   not-unbeaten : (w′ h′ : ℕ) → w < w′ → h ≤ h′ → Unbeaten kind cs (o w′ h′) → ⊥
   not-unbeaten w′ h′ x y u = go (u .unbeaten qs (f .is-legal))
     where
@@ -78,3 +87,10 @@ A-can-be-met = (not-unmeetable A-apart-2-3, not-too-narrow A-apart-2-3)
 -- Four slices and 4 rows are beaten by three.
 B-beaten : Unbeaten Apart stack-B (o 4 4) → ⊥
 B-beaten = not-unbeaten B-apart-3-4 4 4 (omega arith) (omega arith)
+
+-- Twelve cells are not the smallest area of B, which stands in ten; and E is narrower than six slices in twelve cells.
+B-twelve-cells : (ps : List Placement) → SmallestArea Apart stack-B ps (o 3 4) → ⊥
+B-twelve-cells ps = not-smallest B-apart-1-10 3 4 ps (inl (omega arith))
+
+E-six-slices : (ps : List Placement) → SmallestArea Apart stack-E ps (o 6 2) → ⊥
+E-six-slices ps = not-smallest E-apart-3-4 6 2 ps (inr (refl, omega arith))

@@ -14,20 +14,23 @@ use Rattle.stack.specs.Calls.{readOf}
 use Rattle.folding.specs.declared.Placement.{Placement}
 use Rattle.folding.specs.declared.Outline.{Outline}
 use Rattle.folding.specs.Calls.{measureOf, chooseOf}
-use Rattle.folding.specs.Best.{BestForHeight, BestForWidth, UnmeetableHeight, UnmeetableWidth, Listing}
-use Rattle.fold.specs.Calls.{workCheck, foldChecks, validOf, ToHeight, ToWidth}
+use Rattle.folding.specs.Best.{BestForHeight, BestForWidth, UnmeetableHeight, UnmeetableWidth, SmallestArea, Listing}
+use Rattle.fold.specs.Calls.{workCheck, lentChecks, foldChecks, validOf, ToHeight, ToWidth}
+use Rattle.fold_area.specs.Calls.{areaValidOf, SmallestOf}
 use Rattle.fold_table.specs.Calls.{tableValidOf, tableAnswer, tableInto, TableOf}
 
 -- `header`: the refusal of a file by its first seven bytes and its length. `size`: those of a list of components. `lent`: those
--- of a fold call's limit, placement buffer and work buffer, for one component. `table-work`: that of the table's work buffer.
--- `table-room`: that of its pairs, for a table of these outlines.
+-- of a fold call's limit, placement buffer and work buffer, for one component; `area-lent`: those of the smallest area, which has
+-- no limit. `table-work`: that of the table's work buffer. `table-room`: that of its pairs, for a table of these outlines.
 pub data Line : Type 0 where
   to-height : Kind → List Component → ℕ → Answer Outline → Line
   to-width : Kind → List Component → ℕ → Answer Outline → Line
+  smallest-area : Kind → List Component → Outline → Line
   table : Kind → List Component → List Outline → Line
   header : List ℕ → ℕ → Line
   size : Kind → List Component → Answer ℕ → Line
   lent : ℕ → ℕ → ℕ → Answer ℕ → Line
+  area-lent : ℕ → ℕ → Answer ℕ → Line
   table-work : ℕ → Answer ℕ → Line
   table-room : ℕ → List Outline → Answer ℕ → Line
 
@@ -37,10 +40,12 @@ Holds (to-height kind cs limit (refusal k)) = (k ≡ 9) × UnmeetableHeight kind
 Holds (to-height kind cs limit (result o)) = (ps : List Placement) × BestForHeight kind cs limit ps o
 Holds (to-width kind cs limit (refusal k)) = (k ≡ 9) × UnmeetableWidth kind cs limit
 Holds (to-width kind cs limit (result o)) = (ps : List Placement) × BestForWidth kind cs limit ps o
+Holds (smallest-area kind cs o) = (ps : List Placement) × SmallestArea kind cs ps o
 Holds (table kind cs os) = Listing kind cs os
 Holds (header file k) = headerOf file ≡ refusal k
 Holds (size kind cs a) = countOf (stackOf (mostOf kind) cs) ≡ a
 Holds (lent limit out work a) = foldChecks limit out work 1 1 ≡ a
+Holds (area-lent out work a) = lentChecks out work 1 1 ≡ a
 Holds (table-work n a) = workCheck n 1 ≡ a
 Holds (table-room n os a) = tableAnswer n os ≡ a
 
@@ -54,11 +59,15 @@ Leaves kind file n out out′ (result o) = (measureOf kind file out′ ≡ resul
 abbrev pub Has : List Component → List ℕ → Type 0
 Has cs file = (headerOf file ≡ result (length cs)) × (componentsOf file (length cs) ≡ cs)
 
--- The fold calls and the table refuse with k, and leave all that was lent as it was.
+-- The fold calls, the smallest area and the table refuse with k, and leave all that was lent as it was.
 abbrev pub FoldsRefuse : Kind → List ℕ → ℕ → List ℕ → List ℕ → ℕ → Type 0
 FoldsRefuse kind file limit out work k = (out′ work′ : List ℕ) (answer : Answer Outline)
     → (ToHeight kind file limit out work answer out′ work′ → (answer ≡ refusal k) × (out′ ≡ out) × (work′ ≡ work))
     × (ToWidth kind file limit out work answer out′ work′ → (answer ≡ refusal k) × (out′ ≡ out) × (work′ ≡ work))
+
+abbrev pub AreaRefuses : Kind → List ℕ → List ℕ → List ℕ → ℕ → Type 0
+AreaRefuses kind file out work k = (out′ work′ : List ℕ) (answer : Answer Outline)
+    → SmallestOf kind file out work answer out′ work′ → (answer ≡ refusal k) × (out′ ≡ out) × (work′ ≡ work)
 
 abbrev pub TableRefuses : Kind → List ℕ → List ℕ → List ℕ → ℕ → Type 0
 TableRefuses kind file out work k = (out′ work′ : List ℕ) (answer : Answer ℕ)
@@ -72,6 +81,7 @@ pub record Refuses (kind : Kind) (file : List ℕ) (k : ℕ) : Type 0 where
   pub measuring : (flat : List ℕ) → measureOf kind file flat ≡ refusal k
   pub choosing : (first second : List ℕ) → chooseOf kind file first second ≡ []
   pub folding : (limit : ℕ) (out work : List ℕ) → FoldsRefuse kind file limit out work k
+  pub smallest : (out work : List ℕ) → AreaRefuses kind file out work k
   pub listing : (out work : List ℕ) → TableRefuses kind file out work k
 
 -- What the calls answer, and what they leave in the lent buffers, for every file that reads to the stack and whatever the
@@ -83,6 +93,9 @@ Answers (to-height kind cs limit a) = (file out work out′ work′ : List ℕ) 
 Answers (to-width kind cs limit a) = (file out work out′ work′ : List ℕ) (answer : Answer Outline)
     → validOf kind file limit out work ≡ result cs → ToWidth kind file limit out work answer out′ work′
     → (answer ≡ a) × Leaves kind file (length cs) out out′ a
+Answers (smallest-area kind cs o) = (file out work out′ work′ : List ℕ) (answer : Answer Outline)
+    → areaValidOf kind file out work ≡ result cs → SmallestOf kind file out work answer out′ work′
+    → (answer ≡ result o) × Leaves kind file (length cs) out out′ (result o)
 Answers (table kind cs os) = (file out work out′ work′ : List ℕ) (answer : Answer ℕ)
     → tableValidOf kind file work ≡ result cs → TableOf kind file out work answer out′ work′
     → (answer ≡ tableAnswer (length out) os) × (out′ ≡ tableInto os out)
@@ -96,6 +109,12 @@ Answers (lent limit o w (refusal k)) = (kind : Kind) (file out work : List ℕ) 
 Answers (lent limit o w (result n)) = (kind : Kind) (file out work : List ℕ) (cs : List Component)
     → checkOf kind file ≡ result cs → length cs ≡ 1 → length out ≡ o → length work ≡ w
     → validOf kind file limit out work ≡ result cs
+Answers (area-lent o w (refusal k)) = (kind : Kind) (file out work : List ℕ) (cs : List Component)
+    → checkOf kind file ≡ result cs → length cs ≡ 1 → length out ≡ o → length work ≡ w
+    → AreaRefuses kind file out work k
+Answers (area-lent o w (result n)) = (kind : Kind) (file out work : List ℕ) (cs : List Component)
+    → checkOf kind file ≡ result cs → length cs ≡ 1 → length out ≡ o → length work ≡ w
+    → areaValidOf kind file out work ≡ result cs
 Answers (table-work w (refusal k)) = (kind : Kind) (file out work : List ℕ) (cs : List Component)
     → checkOf kind file ≡ result cs → length work ≡ w → TableRefuses kind file out work k
 Answers (table-work w (result n)) = (kind : Kind) (file work : List ℕ) (cs : List Component)
@@ -157,6 +176,14 @@ lines =
     ∷ table Apart E (o 3 4 ∷ o 6 2 ∷ o 8 1 ∷ [])
     ∷ table Nested E (o 3 3 ∷ o 6 2 ∷ o 8 1 ∷ [])
     ∷ to-height Nested F 2 (result (o 10 2))
+    ∷ smallest-area Apart B (o 1 10)
+    ∷ smallest-area Nested B (o 1 10)
+    ∷ smallest-area Apart D (o 29 5)
+    ∷ smallest-area Nested D (o 10 14)
+    ∷ smallest-area Apart E (o 8 1)
+    ∷ smallest-area Nested E (o 8 1)
+    ∷ smallest-area Apart F (o 13 2)
+    ∷ smallest-area Nested F (o 5 4)
     ∷ header [] 1
     ∷ header (83 ∷ 84 ∷ 76 ∷ 2 ∷ 0 ∷ 1 ∷ 0 ∷ []) 1
     ∷ header (83 ∷ 84 ∷ 75 ∷ 2 ∷ 0 ∷ 1 ∷ 0 ∷ []) 2
@@ -183,6 +210,9 @@ lines =
     ∷ lent 0 2 8191 (refusal 7)
     ∷ lent 1 2 8192 (refusal 8)
     ∷ lent 1 3 8191 (refusal 8)
+    ∷ area-lent 3 8192 (result 1)
+    ∷ area-lent 2 8192 (refusal 8)
+    ∷ area-lent 3 8191 (refusal 8)
     ∷ table-work 8192 (result 1)
     ∷ table-work 8191 (refusal 8)
     ∷ table-room 6 (o 3 4 ∷ o 6 2 ∷ o 8 1 ∷ []) (result 3)

@@ -14,7 +14,7 @@ use Rattle.layout.proofs.Groups.{Stacked}
 use Rattle.layout.proofs.Foldings.{search}
 
 module _ (kind : Kind) (cs : List Component) (s : Stacked cs) where
-  unbeaten-is : (o : Outline) → any.Unbeaten (Legal kind cs) (outlineOf cs) o → Unbeaten kind cs o
+  pub unbeaten-is : (o : Outline) → any.Unbeaten (Legal kind cs) (outlineOf cs) o → Unbeaten kind cs o
   unbeaten-is o u = record { folding = u .0; is-legal = u .1; has = u .2; unbeaten = u .3 }
 
   unbeaten-of : (o : Outline) → Unbeaten kind cs o → any.Unbeaten (Legal kind cs) (outlineOf cs) o

@@ -1,6 +1,6 @@
 -- The smallest area, from a search alone: one pass over falling limits, without those at which nothing can be smaller.
 use Prim.Native.Nat.{ℕ, _+_, _-_, _*_, _/_, _≤_, _<_}
-use mathlib.Core.Path.{_≡_, refl, ap}
+use mathlib.Core.Path.{_≡_, refl, sym, ap}
 use mathlib.Core.Logic.{_⊎_, inl, inr}
 use mathlib.Core.Bool.{Bool, true, false, cond}
 use native.Mathlib.Nat.{mul-le-mul, mul-le-mul-left, mul-le-mul-right, mul-comm, mul-add, le-of-mul-le-mul-left, lt-mul-div-succ, div-lt-iff-lt-mul, div-le-of-le-mul}
@@ -12,11 +12,15 @@ use Rattle.folding.specs.declared.Outline.{Outline}
 use Rattle.folding.specs.Best.{areaOf, Larger}
 use Rattle.model.specs.Groups.{none}
 use Rattle.model.specs.Layout.{Layout, NoWorse}
-use Rattle.model.specs.Outlines.{outlineBy}
+use Rattle.model.specs.Outlines.{outline, outlineBy}
 use Rattle.model.specs.Search.{Search}
 use Rattle.model.specs.Area.{smallerOf, nextLimit}
 use Rattle.model.proofs.Choice.{no-wider}
 use Rattle.model.proofs.Best.{layout-high, own-height}
+use Rattle.model.proofs.Table.{Unbeaten, layout-unbeaten}
+
+same-outline : {o p : Outline} → o .width .0 ≡ p .width .0 → o .height .0 ≡ p .height .0 → o ≡ p
+same-outline {o} {p} w h = let e : outline (o .width .0) (o .height .0) ≡ outline (p .width .0) (p .height .0) = rw (w, h) in e
 
 pub larger-of : (o x : Outline) → areaOf o ≤ areaOf x → o .width .0 ≤ x .width .0 → Larger o x
 larger-of o x a w = go (order (areaOf x) (areaOf o))
@@ -28,6 +32,22 @@ larger-of o x a w = go (order (areaOf x) (areaOf o))
 no-larger : (o x : Outline) → Larger o x → areaOf o ≤ areaOf x
 no-larger o x (inl h) = omega arith
 no-larger o x (inr h) = omega (arith, h .0)
+
+larger-than : (o x y : Outline) → Larger o x → x .width .0 ≤ y .width .0 → x .height .0 ≤ y .height .0 → Larger o y
+larger-than o x y (inl h) w t = inl (omega (arith, mul-le-mul w t))
+larger-than o x y (inr h) w t = larger-of o y (omega (arith, h .0, mul-le-mul w t)) (omega (arith, h .1))
+
+-- Of two outlines that are not larger than each other there is only one.
+pub one-smallest : (o p : Outline) → 0 < o .width .0 → Larger o p → Larger p o → o ≡ p
+one-smallest o p some (inl h) (inl k) = absurd (omega arith)
+one-smallest o p some (inl h) (inr k) = absurd (omega (arith, k .0))
+one-smallest o p some (inr h) (inl k) = absurd (omega (arith, h .0))
+one-smallest o p some (inr h) (inr k) =
+    let w : p .width .0 ≡ o .width .0 = omega (arith, h .1, k .1) in
+    let e : o .width .0 * p .height .0 ≡ o .width .0 * o .height .0 = omega (arith, h .0, ap (λ (x : ℕ). x * p .height .0) w) in
+    let up : o .width .0 * p .height .0 ≤ o .width .0 * o .height .0 = omega arith in
+    let down : o .width .0 * o .height .0 ≤ o .width .0 * p .height .0 = omega arith in
+    same-outline (sym w) (omega (arith, le-of-mul-le-mul-left up some, le-of-mul-le-mul-left down some))
 
 -- The smaller of two is one of them, and its area is at most either's.
 pub smaller-either : (C : Outline → Type 0) (a b : Outline) → (areaOf a < areaOf b → C a) → (areaOf b ≤ areaOf a → C b) → C (smallerOf a b)
@@ -150,12 +170,13 @@ module _ {F : Type 0} {Legal : F → Type 0} {outlineOf : F → Outline} {best :
     smallest-is =
         let r = s .some (o .height .0) smallest-met in
         let k = s .keeps (o .height .0) smallest-met in
-        go k (rw (r .2) at (all (r .0) (r .1)))
-      where
-        go : own .height ≤ o .height .0 → Larger o (outlineBy own) → outlineBy own ≡ o
-        go k (inl h) = absurd (omega (arith, mul-le-mul (i .reached) k))
-        go k (inr h) =
-            let w : own .width ≡ o .width .0 = omega (arith, h .1, i .reached) in
-            let e : o .width .0 * o .height .0 ≤ o .width .0 * own .height = omega (arith, h .0, ap (λ (x : ℕ). x * own .height) w) in
-            let t : own .height ≡ o .height .0 = omega (arith, le-of-mul-le-mul-left e (i .wide)) in
-            rw (w, t)
+        sym (one-smallest o (outlineBy own) (i .wide) (rw (r .2) at (all (r .0) (r .1))) (larger-of (outlineBy own) o (mul-le-mul (i .reached) k) (i .reached)))
+
+  -- What is no larger than any unbeaten outline is no larger than any folding.
+  pub among-unbeaten : (o : Outline) → ((p : Outline) → Unbeaten Legal outlineOf p → Larger o p) → (f : F) → Legal f → Larger o (outlineOf f)
+  among-unbeaten o u f l = go (s .every (outlineOf f .height .0) f l (omega arith))
+    where
+      go : NoWorse (best (outlineOf f .height .0)) (outlineOf f .width .0) (outlineOf f .height .0) × (best (outlineOf f .height .0) .width < none) → Larger o (outlineOf f)
+      go e =
+          let limit = outlineOf f .height .0 in
+          larger-than o (outlineBy (best limit)) (outlineOf f) (u (outlineBy (best limit)) (layout-unbeaten s limit (e .1))) (no-wider (e .0)) (s .keeps limit (e .1))

@@ -68,7 +68,7 @@ module _ {F : Type 0} {Legal : F → Type 0} {outlineOf : F → Outline} {best :
         go (inr k) (inl u) = absurd (omega (arith, s .keeps limit met))
         go (inl k) (inl u) = near (s .every limit other l k .0) u
 
-    layout-unbeaten : Unbeaten Legal outlineOf (outlineBy here)
+    pub layout-unbeaten : Unbeaten Legal outlineOf (outlineBy here)
     layout-unbeaten = let r = s .some limit met in (r .0, r .1, r .2, against)
 
     -- It stands in front of those that are listed for one less than its height.

@@ -119,6 +119,11 @@ fn fold_cases(label: &[u8], nested: bool) {
         b" to width 2",
         stack_folds::folds_to_width(&E, nested, 2, &mut placements, &mut work),
     );
+    say(label);
+    say_extent(
+        b" smallest area",
+        stack_folds::folds_smallest_area(&E, nested, &mut placements, &mut work),
+    );
 }
 
 // Three pairs, and what the fourth place held before.

@@ -1,5 +1,5 @@
-// Runs every line of a file of small stacks and their outline tables through the table and both folds, at each outline and
-// between outlines, and counts.
+// Runs every line of a file of small stacks and their outline tables through the table, the smallest area and both folds, at
+// each outline and between outlines, and counts.
 // A line: components as height/width/gap, the apart table, the nested table, apart by bars.
 use folding::Measured;
 use terms::Counted;
@@ -266,13 +266,52 @@ fn table_case(file: &[u8], kind: Kind, table: &[u32]) -> bool {
     }
 }
 
+fn area_at(table: &[u32], i: usize) -> u64 {
+    if i < table.len() / 2 {
+        best::product(table[2 * i], table[2 * i + 1])
+    } else {
+        0
+    }
+}
+
+// The line of smallest area; of equals the first, which is the narrowest.
+fn smallest_line(table: &[u32]) -> usize {
+    let mut at = 0;
+    let mut i = 1;
+    while i < table.len() / 2 {
+        if area_at(table, i) < area_at(table, at) {
+            at = i;
+        }
+        i += 1;
+    }
+    at
+}
+
+// The folding of smallest area, and what measuring makes of it.
+fn smallest_area(file: &[u8], kind: Kind, width: u32, height: u32) -> bool {
+    let mut placements = [4000000000u32; 36];
+    let mut work = [7u32; LEAST_WORK];
+    let a = fold_area::smallest_area(file, kind, &mut placements, &mut work);
+    is(a, width, height) && is(folding::measure(file, kind, &placements), width, height)
+}
+
+fn area_case(file: &[u8], kind: Kind, table: &[u32]) -> bool {
+    let i = smallest_line(table);
+    if i < table.len() / 2 {
+        smallest_area(file, kind, table[2 * i], table[2 * i + 1])
+    } else {
+        false
+    }
+}
+
 fn listed_cases(file: &[u8], kind: Kind, numbers: &[u32], n: usize, t: Tally) -> Tally
     requires { ⌜ n ≤ length (now numbers) ⌝ }
 {
     let table = &numbers[..n];
     let a = count(t, table_case(file, kind, table));
-    let b = outline_cases(file, kind, table, a);
-    below_cases(file, kind, table, b)
+    let b = count(a, area_case(file, kind, table));
+    let c = outline_cases(file, kind, table, b);
+    below_cases(file, kind, table, c)
 }
 
 fn kind_cases(file: &[u8], kind: Kind, text: &[u8], t: Tally) -> Tally {

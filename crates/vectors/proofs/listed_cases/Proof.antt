@@ -1,6 +1,6 @@
+use mathlib.Core.Path.{sym}
 use lib.Seq.{length-take-le}
 use native.Mathlib.Omega.{arith}
-use mathlib.Core.Path.{sym}
 use borrow.Author.Needs.{needs}
 use Rattle.vectors.proofs.listed_cases.Statement.{statement}
 use Rattle.vectors.proofs.listed_cases.Tie as tie
@@ -13,6 +13,12 @@ table-case-requires c κs = search needs
 
 count-requires : tie.Need-count-requires
 count-requires c κs = search needs
+
+area-case-requires : tie.Need-area-case-requires
+area-case-requires c κs = search needs
+
+count-requires-2 : tie.Need-count-requires-2
+count-requires-2 c κs = search needs
 
 outline-cases-requires : tie.Need-outline-cases-requires
 outline-cases-requires c κs = search needs
@@ -30,6 +36,8 @@ listed-cases-spec =
     slice-aggregate-table
     table-case-requires
     count-requires
+    area-case-requires
+    count-requires-2
     outline-cases-requires
     below-cases-requires
     returns)
