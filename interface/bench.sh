@@ -1,6 +1,6 @@
 #!/usr/bin/env bash
-# Times both folds and the table next to document 001's own method, some three minutes; prints the tables of
-# docs/PERFORMANCE.md, and a line to standard error as each row is done.
+# Times both folds and the table next to document 001's own method, and the smallest area, some three minutes; prints the
+# tables of docs/PERFORMANCE.md, and a line to standard error as each row is done.
 #
 #   interface/bench.sh [--renew] [--keep FILE]
 #

@@ -14,8 +14,8 @@ said() {
     "$@" 2>&1 || true
 }
 
-for words in "apart height 2" "nested height 3" "nested width 6" "apart width 5" "apart table" "nested table" \
-    "nested height 0" "apart width 2"; do
+for words in "apart height 2" "nested height 3" "nested width 6" "apart width 5" "apart area" "nested area" \
+    "apart table" "nested table" "nested height 0" "apart width 2"; do
     echo "== e.stk $words"
     # shellcheck disable=SC2086
     said target/example/fold_file interface/example/e.stk $words | tee target/example/c.out

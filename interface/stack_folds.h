@@ -138,6 +138,16 @@ folds_outline folds_to_height(const uint8_t *file, size_t file_len, bool nested,
 folds_outline folds_to_width(const uint8_t *file, size_t file_len, bool nested, uint32_t limit,
                              uint32_t *placements, size_t placements_len, uint32_t *work, size_t work_len);
 
+/* Folds to the smallest area: of all legal foldings, one whose outline has the least width times height, and of equal
+ * areas the narrowest. Which folding of that outline is written is free. The area is at most that of the stack without
+ * a fold, so it is under 2^32; other foldings may have more.
+ * Writes the first 3n numbers of placements; all beyond stays unchanged.
+ * Refusals 1 to 6; 8 for fewer than n whole placements or a work buffer under FOLDS_WORK. There is always a result
+ * otherwise.
+ * A refusal leaves placements and the work buffer unchanged; a result leaves the work buffer's content open. */
+folds_outline folds_smallest_area(const uint8_t *file, size_t file_len, bool nested,
+                                  uint32_t *placements, size_t placements_len, uint32_t *work, size_t work_len);
+
 /* Lists the unbeaten outlines as pairs width, height: widths rise and heights fall strictly. count: the number of pairs.
  * There are never more pairs than the components' widths add up to, so FOLDS_PAIRS(n) numbers are always enough.
  * Writes the first 2*count numbers of pairs; all beyond stays unchanged.

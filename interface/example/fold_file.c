@@ -1,5 +1,5 @@
 /* Folds a stack file and prints the outline and the placements, or prints its outline table.
- * Arguments: FILE apart|nested height|width LIMIT, or FILE apart|nested table */
+ * Arguments: FILE apart|nested height|width LIMIT, or FILE apart|nested area|table */
 #include "../stack_folds.h"
 #include <errno.h>
 #include <stdio.h>
@@ -10,6 +10,7 @@
 static uint8_t file[7 + 6 * 256 + 1];
 static size_t file_len;
 static bool nested;
+static uint32_t placements[FOLDS_PLACEMENTS(256)];
 static uint32_t work[FOLDS_WORK];
 
 static int fail(const char *why) {
@@ -30,10 +31,8 @@ static uint32_t number(const char *word) {
     return word[0] < '0' || word[0] > '9' || *end != 0 || errno != 0 || value > UINT32_MAX ? 0 : (uint32_t)value;
 }
 
-static int fold(size_t components, bool to_height, uint32_t limit) {
-    static uint32_t placements[FOLDS_PLACEMENTS(256)];
-    folds_outline outline = (to_height ? folds_to_height : folds_to_width)(
-        file, file_len, nested, limit, placements, FOLDS_PLACEMENTS(256), work, FOLDS_WORK);
+/* Prints the folding in `placements`, unless it was refused. */
+static int folded(size_t components, folds_outline outline) {
     if (outline.refusal != 0)
         return refused(outline.refusal);
     printf("width %u height %u\n", (unsigned)outline.width, (unsigned)outline.height);
@@ -42,6 +41,16 @@ static int fold(size_t components, bool to_height, uint32_t limit) {
         printf("C%u group %u %s start %u\n", (unsigned)i + 1, (unsigned)p[0], p[1] == 0 ? "left" : "right", (unsigned)p[2]);
     }
     return EXIT_SUCCESS;
+}
+
+static int fold(size_t components, bool to_height, uint32_t limit) {
+    return folded(components, (to_height ? folds_to_height : folds_to_width)(
+        file, file_len, nested, limit, placements, FOLDS_PLACEMENTS(256), work, FOLDS_WORK));
+}
+
+static int smallest_area(size_t components) {
+    return folded(components, folds_smallest_area(
+        file, file_len, nested, placements, FOLDS_PLACEMENTS(256), work, FOLDS_WORK));
 }
 
 static int table(size_t components) {
@@ -57,13 +66,14 @@ static int table(size_t components) {
 
 int main(int argc, char **argv) {
     bool listing = argc == 4 && strcmp(argv[3], "table") == 0;
-    if (argc != 5 && !listing)
-        return fail("usage: fold_file FILE apart|nested height|width LIMIT\n       fold_file FILE apart|nested table");
+    bool area = argc == 4 && strcmp(argv[3], "area") == 0;
+    if (argc != 5 && !listing && !area)
+        return fail("usage: fold_file FILE apart|nested height|width LIMIT\n       fold_file FILE apart|nested area|table");
     nested = strcmp(argv[2], "nested") == 0;
     if (!nested && strcmp(argv[2], "apart") != 0)
         return fail("the kind is apart or nested");
     bool to_height = strcmp(argv[3], "height") == 0;
-    if (!listing && !to_height && strcmp(argv[3], "width") != 0)
+    if (argc == 5 && !to_height && strcmp(argv[3], "width") != 0)
         return fail("the limit is a height or a width");
 
     FILE *in = fopen(argv[1], "rb");
@@ -75,5 +85,7 @@ int main(int argc, char **argv) {
     folds_count count = folds_check(file, file_len, nested);
     if (count.refusal != 0)
         return refused(count.refusal);
-    return listing ? table(count.count) : fold(count.count, to_height, number(argv[4]));
+    if (listing)
+        return table(count.count);
+    return area ? smallest_area(count.count) : fold(count.count, to_height, number(argv[4]));
 }

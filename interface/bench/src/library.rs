@@ -25,6 +25,10 @@ impl Library<'_> {
         found(raw::to_width(self.file, self.nested, limit, &mut self.placements, &mut self.work))
     }
 
+    pub fn smallest_area(&mut self) -> Option<Outline> {
+        found(raw::smallest_area(self.file, self.nested, &mut self.placements, &mut self.work))
+    }
+
     pub fn table(&mut self) -> Vec<Outline> {
         let answer = raw::table(self.file, self.nested, &mut self.pairs, &mut self.work);
         assert_eq!(answer.refusal, 0, "the table is refused");

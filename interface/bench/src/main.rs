@@ -1,7 +1,7 @@
-//! Times both folds and the table, next to document 001's own method on the same stacks, and both folds over a sweep of
-//! limits; checks that all find the same outlines. Prints the tables of docs/PERFORMANCE.md, and as each row is done a
-//! line to standard error. Arguments, each with a file behind it: --picture, where to write the plot; --before, the
-//! figures of an earlier run to show beside these; --keep, where to write the figures of this one.
+//! Times both folds and the table, next to document 001's own method on the same stacks, both folds over a sweep of
+//! limits, and the smallest area; checks that all find the same outlines. Prints the tables of docs/PERFORMANCE.md, and
+//! as each row is done a line to standard error. Arguments, each with a file behind it: --picture, where to write the
+//! plot; --before, the figures of an earlier run to show beside these; --keep, where to write the figures of this one.
 
 mod clock;
 mod figures;
@@ -65,6 +65,8 @@ fn print(nested: &[Row], apart: &[Row], before: &[Row]) {
     }
     report::print_times(nested);
     report::print_times(apart);
+    report::print_areas(nested);
+    report::print_areas(apart);
 }
 
 fn rows(nested: bool, counts: &[usize]) -> Vec<Row> {

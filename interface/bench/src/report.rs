@@ -1,7 +1,7 @@
 //! The tables of docs/PERFORMANCE.md.
 
-use crate::row::{longest_stacks, median, Row};
-use crate::timing::CALLS;
+use crate::row::{longest, longest_stacks, median, Row};
+use crate::timing::{Area, CALLS};
 
 /// The head of a table that has, for each call, the library's median and worst and document 001's median.
 pub fn header(first: &str, aligned: &str) {
@@ -30,6 +30,22 @@ pub fn print_dearest(kinds: &[&[Row]]) {
     for row in kinds.iter().flat_map(|rows| longest_stacks(rows)) {
         let cells = [0, 1].map(|fold| format!("{} | {:.2}", told(row.worst(fold)), row.dearest(fold)));
         println!("| {} | {} | {} | {} |", row.kind, row.count, row.shape.name(), cells.join(" | "));
+    }
+}
+
+/// The smallest area beside what gives the same answer without the call: the table, and the fold to the height found in
+/// it. The share is of those two together.
+pub fn print_areas(rows: &[Row]) {
+    let kind = rows[0].kind;
+    println!("\nFoldings {kind}, the smallest area: medians and worst, timed in turns with the table and one fold\n");
+    println!("| components | shape | stacks | area | worst | table | worst | fold | worst | share | greatest |");
+    println!("|---:|---|---:|---:|---:|---:|---:|---:|---:|---:|---:|");
+    for row in rows {
+        let times: [fn(&Area) -> f64; 3] = [|area| area.call, |area| area.table, |area| area.fold];
+        let cells = times.map(|of| format!("{} | {}", told(median(row.areas(of))), told(longest(row.areas(of)))));
+        let shares = row.areas(|area| area.call / (area.table + area.fold));
+        let (count, shape, stacks, cells) = (row.count, row.shape.name(), row.timed.len(), cells.join(" | "));
+        println!("| {count} | {shape} | {stacks} | {cells} | {:.2} | {:.2} |", median(shares.clone()), longest(shares));
     }
 }
 

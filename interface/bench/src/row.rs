@@ -1,7 +1,7 @@
 //! The timed stacks of one kind, length and shape, and the numbers that are told of them.
 
 use crate::shapes::Shape;
-use crate::timing::{Cost, Timed};
+use crate::timing::{Area, Cost, Timed};
 
 pub const KINDS: [&str; 2] = ["nested", "apart"];
 
@@ -33,6 +33,11 @@ impl Row {
 
     fn seconds(&self, call: usize, of: fn(&Cost) -> f64) -> Vec<f64> {
         self.timed.iter().map(|timed| of(&timed.costs[call])).collect()
+    }
+
+    /// One number for each stack whose smallest area was timed.
+    pub fn areas(&self, of: fn(&Area) -> f64) -> Vec<f64> {
+        self.timed.iter().filter_map(|timed| timed.area.as_ref().map(of)).collect()
     }
 
     /// Where the dearest limit of that fold lies, on the stack that takes longest there.

@@ -1,5 +1,5 @@
 //! Times one stack: the table and, at its middle line, both folds, by the library and by document 001's method; then
-//! the library's folds over a sweep of limits, since the middle line is far from the dearest.
+//! the library's folds over a sweep of limits, since the middle line is far from the dearest; and its smallest area.
 
 use crate::clock;
 use crate::library::Library;
@@ -17,6 +17,9 @@ const LIMITS: u32 = 20;
 /// A call is repeated until so many seconds have passed, since the clock is coarse; a longer call is made once.
 const SHORT: f64 = 0.002;
 
+/// So often the smallest area, the table and the fold are timed in turns.
+const TURNS: usize = 5;
+
 /// The seconds of one call on one stack.
 #[derive(Clone)]
 pub struct Cost {
@@ -26,6 +29,15 @@ pub struct Cost {
     pub worst: f64,
 }
 
+/// The library's seconds for the smallest area, and for the table and the fold to the height found in it, which together
+/// give the same answer. Document 001 has no method for it.
+#[derive(Clone)]
+pub struct Area {
+    pub call: f64,
+    pub table: f64,
+    pub fold: f64,
+}
+
 #[derive(Clone)]
 pub struct Timed {
     /// In the order of the calls.
@@ -33,6 +45,8 @@ pub struct Timed {
     /// The dearest height as a share of the greatest, and the dearest width as a multiple of the least.
     pub dearest: [f64; 2],
     pub outlines: usize,
+    /// None in figures from before there was such a call.
+    pub area: Option<Area>,
 }
 
 pub fn time_stack(stack: &Stack, nested: bool) -> Timed {
@@ -56,7 +70,27 @@ pub fn time_stack(stack: &Stack, nested: bool) -> Timed {
         |limit| table.iter().rfind(|line| line.width.0 <= limit).copied(),
     );
     let dearest = [f64::from(height) / f64::from(narrowest.height.0), f64::from(width) / f64::from(narrowest.width.0)];
-    Timed { costs: [height_cost, width_cost, table_cost], dearest, outlines: table.len() }
+    let area = Some(time_area(&mut library, &table));
+    Timed { costs: [height_cost, width_cost, table_cost], dearest, outlines: table.len(), area }
+}
+
+/// The smallest area must be the table's, and the fold must find its outline. The least time of each counts: area and
+/// table are often close, and other work on the machine would decide which seems longer.
+fn time_area(library: &mut Library, table: &[Outline]) -> Area {
+    let area = |line: &&Outline| u64::from(line.width.0) * u64::from(line.height.0);
+    let smallest = table.iter().min_by_key(area).copied(); // the first of equals, which is the narrowest
+    let height = smallest.map_or(0, |line| line.height.0);
+    let mut least = [f64::INFINITY; 3];
+    for _ in 0..TURNS {
+        let (found, call) = time(|| library.smallest_area());
+        assert_eq!(found, smallest, "the smallest area and the table differ");
+        let (_, table) = time(|| library.table());
+        let (found, fold) = time(|| library.fold_to_height(height));
+        assert_eq!(found, smallest, "the fold and the smallest area differ");
+        least = [least[0].min(call), least[1].min(table), least[2].min(fold)];
+    }
+    let [call, table, fold] = least;
+    Area { call, table, fold }
 }
 
 /// The cost of a fold, and its dearest limit. Every outline of the sweep must be the table's for that limit.

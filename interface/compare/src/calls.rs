@@ -1,6 +1,6 @@
 //! Each call of the library, held to the own rules: its answer, and that buffers change only where they may.
 
-use crate::front::Toward;
+use crate::front::{Aim, Toward};
 use crate::measure::{self, Outline};
 use crate::rng::Rng;
 use crate::rules::{self, Answer};
@@ -41,15 +41,15 @@ pub enum Call {
     Measure,
     Choose,
     Fold(Toward),
+    SmallestArea,
     Table,
 }
 
-/// A fold call without its buffers, of which only the lengths matter.
+/// A fold call, with a limit or to the smallest area, without its buffers, of which only the lengths matter.
 pub struct FoldCall<'a> {
     pub file: &'a [u8],
     pub nested: bool,
-    pub toward: Toward,
-    pub limit: u32,
+    pub aim: Aim,
     pub room: usize,
     pub work: usize,
 }
@@ -58,6 +58,8 @@ pub struct Caller {
     pub rng: Rng,
     /// What lent buffers are filled from; drawing anew for each would take longer than most calls.
     noise: Vec<u64>,
+    /// What the last call left in its work buffer: it means something to the library, as noise does not.
+    left: Vec<u32>,
     /// Calls made, by the refusal that they gave; 0 is a result.
     pub answers: [u64; 11],
 }
@@ -66,7 +68,7 @@ impl Caller {
     pub fn new(seed: u64) -> Caller {
         let mut rng = Rng(seed);
         let noise = (0..1 << 16).map(|_| rng.next()).collect();
-        Caller { rng, noise, answers: [0; 11] }
+        Caller { rng, noise, left: Vec::new(), answers: [0; 11] }
     }
 
     fn lend<T: Copy>(&mut self, length: usize, cut: fn(u64) -> T) -> Lent<T> {
@@ -77,6 +79,17 @@ impl Caller {
 
     fn lend_numbers(&mut self, length: usize) -> Lent<u32> {
         self.lend(length, |noise| noise as u32)
+    }
+
+    /// Noise, or what the last call left there: no answer may depend on either.
+    fn lend_work(&mut self, length: usize) -> Lent<u32> {
+        let mut work = self.lend_numbers(length);
+        if self.rng.one_in(3) {
+            let both = length.min(self.left.len());
+            work.before[..both].copy_from_slice(&self.left[..both]);
+            work.now.clone_from(&work.before);
+        }
+        work
     }
 
     fn told(&mut self, refusal: u32) -> Compared<()> {
@@ -143,22 +156,27 @@ impl Caller {
     /// The answer is held to all that needs no search: its refusals but 9, and that a folding is legal, keeps the limit
     /// and has the outline given.
     pub fn fold(&mut self, call: &FoldCall) -> Compared<Answer<Outline>> {
-        let FoldCall { toward, limit, room, work, .. } = call;
-        let told =
-            |what| format!("{what}\nfold to {toward:?} {limit}, {room} numbers of placements and {work} of work");
+        let FoldCall { aim, room, work, .. } = call;
+        let told = |what| format!("{what}\nfold, {aim:?}, {room} numbers of placements and {work} of work");
         self.held_fold(call).map_err(told)
     }
 
     fn held_fold(&mut self, call: &FoldCall) -> Compared<Answer<Outline>> {
-        let (mut placements, mut work) = (self.lend_numbers(call.room), self.lend_numbers(call.work));
-        let library = match call.toward {
-            Toward::Height => raw::to_height,
-            Toward::Width => raw::to_width,
+        let (mut placements, mut work) = (self.lend_numbers(call.room), self.lend_work(call.work));
+        let answer = match call.aim {
+            Aim::Within(toward, limit) => {
+                let library = match toward {
+                    Toward::Height => raw::to_height,
+                    Toward::Width => raw::to_width,
+                };
+                library(call.file, call.nested, limit, &mut placements.now, &mut work.now)
+            }
+            Aim::SmallestArea => raw::smallest_area(call.file, call.nested, &mut placements.now, &mut work.now),
         };
-        let answer = library(call.file, call.nested, call.limit, &mut placements.now, &mut work.now);
+        self.left.clone_from(&work.now);
         self.told(answer.refusal)?;
         let answer = outlined(answer)?;
-        let stack = match rules::fold(call.file, call.nested, call.limit, call.room, call.work) {
+        let stack = match rules::fold(call.file, call.nested, call.aim, call.room, call.work) {
             Ok(stack) => stack,
             Err(number) => {
                 same("fold", answer, Err(number))?;
@@ -169,6 +187,7 @@ impl Caller {
         };
         let Ok(outline) = answer else {
             same("fold", answer, Err(9))?;
+            same("the refused fold has a limit", call.aim != Aim::SmallestArea, true)?;
             placements.unchanged_from(0, "the placements of an unmeetable fold")?;
             return Ok(answer);
         };
@@ -176,18 +195,15 @@ impl Caller {
         let folding = &placements.now[..3 * stack.len()];
         same("the folding's outline", Some(outline), measure::outline(&stack, call.nested, folding))?;
         self.measure(call.file, call.nested, folding)?;
-        let kept = match call.toward {
-            Toward::Height => outline.height,
-            Toward::Width => outline.width,
-        };
-        same("the limit is kept", kept <= call.limit, true)?;
+        same("the limit is kept", call.aim.keeps(outline), true)?;
         Ok(answer)
     }
 
     /// The answer is held to all that needs no search: its refusals but 8 for too long a table, and the order of its lines.
     pub fn table(&mut self, file: &[u8], nested: bool, room: usize, work: usize) -> Compared<Answer<Vec<Outline>>> {
-        let (mut pairs, mut work) = (self.lend_numbers(room), self.lend_numbers(work));
+        let (mut pairs, mut work) = (self.lend_numbers(room), self.lend_work(work));
         let answer = raw::table(file, nested, &mut pairs.now, &mut work.now);
+        self.left.clone_from(&work.now);
         self.told(answer.refusal)?;
         let answer = counted(answer);
         if let Err(number) = rules::table(file, nested, work.now.len()) {

@@ -1,7 +1,7 @@
 //! Damaged files, foldings, limits and buffers. The own rules say which refusal each must have, if any.
 
 use crate::calls::{same, Call, Caller, Compared, FoldCall};
-use crate::front::{best, Toward};
+use crate::front::{best, Aim, Toward};
 use crate::rng::Rng;
 use crate::rows;
 use crate::rules::{self, WORK};
@@ -10,7 +10,7 @@ use crate::stack::{self, Component, SHAPES};
 /// Above this the row search would take too long; the answer is then held only to the checks that need none.
 const MOST_STATES: u64 = 20_000;
 
-pub const CALLS: [Call; 9] = [
+pub const CALLS: [Call; 10] = [
     Call::Check,
     Call::Read,
     Call::Lookup,
@@ -19,6 +19,7 @@ pub const CALLS: [Call; 9] = [
     Call::Choose,
     Call::Fold(Toward::Height),
     Call::Fold(Toward::Width),
+    Call::SmallestArea,
     Call::Table,
 ];
 
@@ -42,7 +43,11 @@ pub fn case(caller: &mut Caller, call: Call, file: &[u8], nested: bool) -> Compa
             caller.measure(file, nested, &folding)
         }
         Call::Choose => choose(caller, file, nested),
-        Call::Fold(toward) => fold(caller, file, nested, toward),
+        Call::Fold(toward) => {
+            let limit = limit(rng);
+            fold(caller, file, nested, Aim::Within(toward, limit))
+        }
+        Call::SmallestArea => fold(caller, file, nested, Aim::SmallestArea),
         Call::Table => table(caller, file, nested),
     }
 }
@@ -86,7 +91,7 @@ fn put(file: &mut [u8], at: usize, number: u16) {
 
 /// Another number of components, right in count and length. Long nested stacks take too long to fold by the thousand.
 fn resize(rng: &mut Rng, file: &mut Vec<u8>, call: Call, nested: bool) {
-    let slow = nested && matches!(call, Call::Fold(_) | Call::Table);
+    let slow = nested && matches!(call, Call::Fold(_) | Call::SmallestArea | Call::Table);
     let count = rng.pick(if slow { &[0, 1, 65, 257] } else { &[0, 1, 64, 65, 256, 257] });
     file.truncate(7);
     put(file, 5, count);
@@ -122,20 +127,21 @@ fn work_length(rng: &mut Rng) -> usize {
     rng.pick(&[WORK, WORK, WORK, WORK, WORK + 5, WORK - 1, 0])
 }
 
-fn fold(caller: &mut Caller, file: &[u8], nested: bool, toward: Toward) -> Compared<()> {
-    let rng = &mut caller.rng;
-    let limit = match rng.below(6) {
+fn limit(rng: &mut Rng) -> u32 {
+    match rng.below(6) {
         0 => rng.pick(&[0, 2_000_001, u32::MAX]),
         1 => rng.pick(&[1, 4000, 2_000_000]),
         _ => rng.within(1, 30),
-    };
+    }
+}
+
+fn fold(caller: &mut Caller, file: &[u8], nested: bool, aim: Aim) -> Compared<()> {
+    let rng = &mut caller.rng;
     let room = length(rng, 3 * (file.len().saturating_sub(7) / 6));
-    let call = FoldCall { file, nested, toward, limit, room, work: work_length(rng) };
+    let call = FoldCall { file, nested, aim, room, work: work_length(rng) };
     let answer = caller.fold(&call)?;
-    match rules::fold(file, nested, limit, room, call.work) {
-        Ok(stack) if rows::cost(&stack) <= MOST_STATES => {
-            same("fold", answer, best(&rows::table(&stack, nested), toward, limit))
-        }
+    match rules::fold(file, nested, aim, room, call.work) {
+        Ok(stack) if rows::cost(&stack) <= MOST_STATES => same("fold", answer, best(&rows::table(&stack, nested), aim)),
         _ => Ok(()),
     }
 }

@@ -4,9 +4,10 @@
 //! of its group, plus `spare` rows. Nothing is lost: if a group is higher than that sum, one of its rows below the top is
 //! empty, since its components fill at most as many rows as their heights add to. Taking that row out, so that all above it
 //! moves down by one, keeps the order in both sides, changes no other row's sum and lowers T by one. So each folding beyond
-//! the bound is equalled or beaten by one within it. With some spare rows the enumeration tries that argument itself.
+//! the bound is equalled or beaten by one within it, in area too. With some spare rows the enumeration tries that argument
+//! itself.
 
-use crate::front::Front;
+use crate::front::{smaller, Front};
 use crate::measure::{outline, Outline};
 use crate::stack::{total, Component};
 
@@ -16,15 +17,26 @@ struct Search<'a> {
     spare: u32,
     folding: Vec<u32>,
     front: Front,
+    smallest: Option<Outline>,
     foldings: u64,
 }
 
-/// The outline table, and how many foldings were measured.
-pub fn table(stack: &[Component], nested: bool, spare: u32) -> (Vec<Outline>, u64) {
+/// What all foldings of a stack come to.
+pub struct Enumerated {
+    pub table: Vec<Outline>,
+    /// Of all foldings, beaten ones too: that it is in the table is for the comparison to show.
+    pub smallest: Outline,
+    /// How many were measured.
+    pub foldings: u64,
+}
+
+pub fn all(stack: &[Component], nested: bool, spare: u32) -> Enumerated {
     let folding = vec![0; 3 * stack.len()];
-    let mut search = Search { stack, nested, spare, folding, front: Front::default(), foldings: 0 };
+    let front = Front::default();
+    let mut search = Search { stack, nested, spare, folding, front, smallest: None, foldings: 0 };
     search.groups(0, 0);
-    (search.front.table(), search.foldings)
+    let smallest = search.smallest.expect("every stack has a folding");
+    Enumerated { table: search.front.table(), smallest, foldings: search.foldings }
 }
 
 impl Search<'_> {
@@ -33,6 +45,7 @@ impl Search<'_> {
         if first == self.stack.len() {
             self.foldings += 1;
             let one = outline(self.stack, self.nested, &self.folding).expect("only legal foldings are tried");
+            self.smallest = Some(self.smallest.map_or(one, |best| smaller(best, one)));
             return self.front.add(one);
         }
         for end in first + 1..=self.stack.len() {

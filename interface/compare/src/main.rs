@@ -14,6 +14,7 @@ mod stack;
 mod stacks;
 
 use calls::{same, Caller, Compared};
+use front::smallest;
 use rng::Rng;
 use stack::{random, Component, SHAPES};
 use std::{env, process::ExitCode, time::Instant};
@@ -92,9 +93,9 @@ fn enumerated(caller: &mut Caller) -> Compared<u64> {
         stacks::files(caller, &stack).map_err(told(&stack, false))?;
         for nested in [false, true] {
             let spare = if stack.len() <= 3 { 2 } else { 0 };
-            let (own, count) = enumerate::table(&stack, nested, spare);
-            foldings += count;
-            stacks::against(caller, &stack, nested, &own).map_err(told(&stack, nested))?;
+            let own = enumerate::all(&stack, nested, spare);
+            foldings += own.foldings;
+            stacks::against(caller, &stack, nested, &own.table, own.smallest).map_err(told(&stack, nested))?;
         }
     }
     Ok(foldings)
@@ -105,7 +106,7 @@ fn searched(caller: &mut Caller) -> Compared<()> {
         let stack = random(&mut caller.rng, 1 + at % 12, SHAPES[at / 12 % SHAPES.len()]);
         for nested in [false, true] {
             let own = rows::table(&stack, nested);
-            stacks::against(caller, &stack, nested, &own).map_err(told(&stack, nested))?;
+            stacks::against(caller, &stack, nested, &own, smallest(&own)).map_err(told(&stack, nested))?;
         }
     }
     Ok(())
@@ -124,13 +125,13 @@ fn scaled(caller: &mut Caller) -> Compared<()> {
         for nested in [false, true] {
             let mut own = rows::table(&small, nested);
             own.iter_mut().for_each(|o| (o.width, o.height) = (o.width * slices, o.height * rows));
-            stacks::against(caller, &stack, nested, &own).map_err(told(&stack, nested))?;
+            stacks::against(caller, &stack, nested, &own, smallest(&own)).map_err(told(&stack, nested))?;
         }
     }
     Ok(())
 }
 
-/// Stacks that no slow implementation reaches: the table and the folds against each other.
+/// Stacks that no slow implementation reaches: the table, the folds and the smallest area against each other.
 fn long(caller: &mut Caller) -> Compared<usize> {
     let mut lines = 0;
     for at in 0..LONG {

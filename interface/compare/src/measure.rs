@@ -8,6 +8,13 @@ pub struct Outline {
     pub height: u32,
 }
 
+impl Outline {
+    /// In 64 bits: a folding can take some 10^12.
+    pub fn area(&self) -> u64 {
+        u64::from(self.width) * u64::from(self.height)
+    }
+}
+
 #[derive(Clone, Copy)]
 struct Placed {
     component: Component,

@@ -1,5 +1,6 @@
 //! Document 01's refusals, call by call: the first condition of a list that holds gives the number.
 
+use crate::front::Aim;
 use crate::measure::{outline, Outline};
 use crate::stack::{self, Component};
 
@@ -84,10 +85,10 @@ pub fn choose(file: &[u8], nested: bool, first: &[u32], second: &[u32]) -> u32 {
     }
 }
 
-/// The stack of a fold call that no refusal but 9 applies to.
-pub fn fold(file: &[u8], nested: bool, limit: u32, room: usize, work: usize) -> Answer<Vec<Component>> {
+/// The stack of a fold call that no refusal but 9 applies to. Without a limit there is no 7, and no 9 either.
+pub fn fold(file: &[u8], nested: bool, aim: Aim, room: usize, work: usize) -> Answer<Vec<Component>> {
     let stack = check(file, nested)?;
-    refuse(&[(7, limit == 0 || limit > LAST_LIMIT), (8, room / 3 < stack.len() || work < WORK)])?;
+    refuse(&[(7, aim.bad_limit()), (8, room / 3 < stack.len() || work < WORK)])?;
     Ok(stack)
 }
 

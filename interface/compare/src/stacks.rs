@@ -1,9 +1,9 @@
 //! Valid stacks: tables and folds against an own table, or, where there is none, against each other.
 
 use crate::calls::{same, Caller, Compared, FoldCall};
-use crate::front::{best, Toward};
+use crate::front::{best, smallest, Aim, Toward};
 use crate::measure::Outline;
-use crate::rules::{LAST_LIMIT, WORK};
+use crate::rules::{Answer, LAST_LIMIT, WORK};
 use crate::stack::{file, Component};
 
 /// Lines of a table that the folds are held to, where stacks are many.
@@ -23,18 +23,22 @@ pub fn files(caller: &mut Caller, stack: &[Component]) -> Compared<()> {
     caller.write([&list(|c| c.height), &list(|c| c.width), &list(|c| c.gap)], bytes.len() + 3)
 }
 
-/// The table and the folds of one kind, against the own table.
-pub fn against(caller: &mut Caller, stack: &[Component], nested: bool, own: &[Outline]) -> Compared<()> {
+/// The table and the folds of one kind, against the own table, and the smallest area against the own one.
+pub fn against(
+    caller: &mut Caller, stack: &[Component], nested: bool, own: &[Outline], least: Outline,
+) -> Compared<()> {
     let bytes = file(stack);
     let spare = caller.rng.below(4);
     let listed = caller.table(&bytes, nested, 2 * own.len() + spare, WORK + spare)?;
     same("the table", listed, Ok(own.to_vec()))?;
     short(caller, stack, nested, 2 * own.len())?;
-    Listed { bytes: &bytes, n: stack.len(), nested, table: own }.folds(caller, LINES)
+    let listed = Listed { bytes: &bytes, n: stack.len(), nested, table: own };
+    listed.folds(caller, LINES)?;
+    listed.smallest(caller, least)
 }
 
 /// The same for stacks with no own table: the library's table, in a buffer of so many numbers, must agree with its own
-/// folds at so many lines. Gives the number of its outlines.
+/// folds at so many lines, and with its smallest area. Gives the number of its outlines.
 pub fn with_itself(
     caller: &mut Caller, stack: &[Component], nested: bool, room: usize, lines: usize,
 ) -> Compared<usize> {
@@ -43,7 +47,9 @@ pub fn with_itself(
         Ok(table) => table,
         Err(number) => return Err(format!("a valid stack's table is refused with {number}")),
     };
-    Listed { bytes: &bytes, n: stack.len(), nested, table: &table }.folds(caller, lines)?;
+    let listed = Listed { bytes: &bytes, n: stack.len(), nested, table: &table };
+    listed.folds(caller, lines)?;
+    listed.smallest(caller, smallest(&table))?;
     Ok(table.len())
 }
 
@@ -98,9 +104,16 @@ impl Listed<'_> {
     }
 
     fn ask(&self, caller: &mut Caller, toward: Toward, limit: u32) -> Compared<()> {
+        let aim = Aim::Within(toward, limit);
+        same(&format!("fold to {toward:?} {limit}"), self.fold(caller, aim)?, best(self.table, aim))
+    }
+
+    fn smallest(&self, caller: &mut Caller, least: Outline) -> Compared<()> {
+        same("the smallest area", self.fold(caller, Aim::SmallestArea)?, Ok(least))
+    }
+
+    fn fold(&self, caller: &mut Caller, aim: Aim) -> Compared<Answer<Outline>> {
         let (room, work) = (3 * self.n + caller.rng.below(5), WORK + caller.rng.below(3));
-        let call = FoldCall { file: self.bytes, nested: self.nested, toward, limit, room, work };
-        let answer = caller.fold(&call)?;
-        same(&format!("fold to {toward:?} {limit}"), answer, best(self.table, toward, limit))
+        caller.fold(&FoldCall { file: self.bytes, nested: self.nested, aim, room, work })
     }
 }

@@ -1,9 +1,10 @@
 //! Folds a stack file and prints the outline and the placements, or prints its outline table.
-//! Arguments: FILE apart|nested height|width LIMIT, or FILE apart|nested table
-use stack_folds::{table, to_height, to_width, Folding, Kind, Outline, Rows, Side, Slices};
+//! Arguments: FILE apart|nested height|width LIMIT, or FILE apart|nested area|table
+use stack_folds::{smallest_area, table, to_height, to_width, Folding, Kind, Outline, Rows, Side, Slices};
 use std::{env, error::Error, fs, process::ExitCode};
 
-const USAGE: &str = "usage: fold_file FILE apart|nested height|width LIMIT\n       fold_file FILE apart|nested table";
+const USAGE: &str =
+    "usage: fold_file FILE apart|nested height|width LIMIT\n       fold_file FILE apart|nested area|table";
 
 fn run(words: &[String]) -> Result<(), Box<dyn Error>> {
     let [path, kind, what, rest @ ..] = words else { return Err(USAGE.into()) };
@@ -16,6 +17,7 @@ fn run(words: &[String]) -> Result<(), Box<dyn Error>> {
     match (what.as_str(), rest) {
         ("height", [limit]) => print(&to_height(&file, kind, Rows(limit.parse()?))?),
         ("width", [limit]) => print(&to_width(&file, kind, Slices(limit.parse()?))?),
+        ("area", []) => print(&smallest_area(&file, kind)?),
         ("table", []) => table(&file, kind)?.iter().for_each(print_outline),
         _ => return Err(USAGE.into()),
     }

@@ -1,5 +1,6 @@
 //! Foldings of a bit-sliced stack: reads and writes stack files, measures foldings, finds the best ones for a height or a
-//! width and lists the unbeaten outlines. Rows and slices are types of their own, so a height cannot be passed as a width.
+//! width and those of the smallest area, and lists the unbeaten outlines. Rows and slices are types of their own, so a
+//! height cannot be passed as a width.
 //!
 //! ```
 //! use stack_folds::{to_height, write, Component, Kind, Rows, Slices};
@@ -194,6 +195,11 @@ pub fn to_width(file: &[u8], kind: Kind, limit: Slices) -> Result<Folding, Refus
     fold(file, kind, |placements, work| raw::to_width(file, nested(kind), limit.0, placements, work))
 }
 
+/// A folding of the smallest area: the least width times height, and of equal areas the narrowest. Refusals 1 to 6.
+pub fn smallest_area(file: &[u8], kind: Kind) -> Result<Folding, Refusal> {
+    fold(file, kind, |placements, work| raw::smallest_area(file, nested(kind), placements, work))
+}
+
 /// The unbeaten outlines: widths rise, heights fall. Refusals 1 to 6.
 pub fn table(file: &[u8], kind: Kind) -> Result<Vec<Outline>, Refusal> {
     let n = check(file, kind)?;
@@ -270,5 +276,21 @@ mod tests {
             assert_eq!(Refusal::unless(refusal.number()), Err(refusal));
         }
         assert_eq!(Refusal::unless(0), Ok(()));
+    }
+
+    /// With no limit only the file can be refused.
+    #[test]
+    fn the_smallest_area_of_each_kind() {
+        let sizes = [(2, 5), (1, 4), (1, 1), (1, 4), (1, 1)];
+        let stack = sizes.map(|(h, w)| Component { height: Rows(h), width: Slices(w), gap: Rows(0) });
+        let file = write(&stack).unwrap();
+        for (kind, width, height) in [(Kind::Apart, 13, 2), (Kind::Nested, 5, 4)] {
+            let folding = smallest_area(&file, kind).unwrap();
+            assert_eq!(folding.outline, outline(width, height));
+            assert_eq!(measure(&file, kind, &folding.placements), Ok(folding.outline));
+        }
+        assert_eq!(smallest_area(&file[1..], Kind::Apart), Err(Refusal::WrongFile));
+        let long = write(&[stack[0]; 65]).unwrap();
+        assert_eq!(smallest_area(&long, Kind::Nested), Err(Refusal::StackSize));
     }
 }

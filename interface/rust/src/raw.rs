@@ -35,7 +35,7 @@ pub fn pairs(n: usize) -> usize {
 
 // Pointer and length are two parameters here, as in C. A slice as one parameter would be wrong: Rust keeps its two words
 // together, on the stack where a single register is left, and the library takes them apart. So it is for the last slice
-// of folds_choose and of folds_table.
+// of folds_choose, of folds_smallest_area and of folds_table.
 mod c {
     use super::{Count, Outline, Part};
     extern "C" {
@@ -64,6 +64,10 @@ mod c {
             file: *const u8, file_len: usize, nested: bool, limit: u32, placements: *mut u32, placements_len: usize,
             work: *mut u32, work_len: usize,
         ) -> Outline;
+        pub fn folds_smallest_area(
+            file: *const u8, file_len: usize, nested: bool, placements: *mut u32, placements_len: usize,
+            work: *mut u32, work_len: usize,
+        ) -> Outline;
         pub fn folds_table(
             file: *const u8, file_len: usize, nested: bool, pairs: *mut u32, pairs_len: usize, work: *mut u32,
             work_len: usize,
@@ -71,7 +75,7 @@ mod c {
     }
 }
 
-// SAFETY, for all nine: a slice has as many elements as it says, is aligned and is not null; those that the library
+// SAFETY, for all ten: a slice has as many elements as it says, is aligned and is not null; those that the library
 // writes are lent mutably, so none overlaps another; and the library is proved to stay inside them for every input.
 
 pub fn check(file: &[u8], nested: bool) -> Count {
@@ -145,6 +149,20 @@ pub fn to_height(file: &[u8], nested: bool, limit: u32, placements: &mut [u32], 
 
 pub fn to_width(file: &[u8], nested: bool, limit: u32, placements: &mut [u32], work: &mut [u32]) -> Outline {
     fold(c::folds_to_width, file, nested, limit, placements, work)
+}
+
+pub fn smallest_area(file: &[u8], nested: bool, placements: &mut [u32], work: &mut [u32]) -> Outline {
+    unsafe {
+        c::folds_smallest_area(
+            file.as_ptr(),
+            file.len(),
+            nested,
+            placements.as_mut_ptr(),
+            placements.len(),
+            work.as_mut_ptr(),
+            work.len(),
+        )
+    }
 }
 
 pub fn table(file: &[u8], nested: bool, pairs: &mut [u32], work: &mut [u32]) -> Count {
