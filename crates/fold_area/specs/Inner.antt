@@ -1,19 +1,21 @@
 -- What the functions inside this crate promise each other. Nothing here is part of a public promise.
-use Prim.Native.Nat.{ℕ, _≤_, _<_}
+use Prim.Native.Nat.{ℕ, _*_, _≤_, _<_}
+use mathlib.Core.Path.{_≡_}
 use mathlib.Core.List.{List}
 use lib.ListN.{length, take}
 use Rattle.terms.specs.Numbers.{mostLimit}
 use Rattle.terms.specs.declared.Component.{Component}
 use Rattle.terms.specs.declared.Kind.{Kind}
 use Rattle.terms.specs.Answer.{Answer}
-use Rattle.terms.specs.Component.{componentsIn}
+use Rattle.terms.specs.Component.{componentsIn, cellSum}
 use Rattle.folding.specs.declared.Outline.{Outline}
 use Rattle.folding.specs.declared.Placement.{Placement}
 use Rattle.folding.specs.Legal.{Legal}
 use Rattle.folding.specs.Outline.{outlineOf}
-use Rattle.folding.specs.Best.{Larger}
+use Rattle.folding.specs.Best.{areaOf, Larger}
+use Rattle.folding.proofs.Cells.{tallest}
 use Rattle.model.proofs.Area.{Leads}
-use Rattle.group.specs.Group.{none}
+use Rattle.group.specs.Group.{none, widest}
 use Rattle.layout.specs.Layout.{layoutOf}
 use Rattle.plan.specs.Asks.{bestAt}
 use Rattle.plan.specs.Memory.{Known}
@@ -21,11 +23,25 @@ use Rattle.fold.specs.Calls.{lentChecks, Answered}
 use Rattle.fold_area.specs.declared.Found.{Found}
 use Rattle.fold_area.specs.Calls.{byArea}
 
--- The pass leads with the outline o, and no folding above the limit is smaller.
-pub record Passing (kind : Kind) (cs : List Component) (o : Outline) (limit : ℕ) : Type 0 where
-  pub leads : Leads (Legal kind cs) (outlineOf cs) (λ most. layoutOf kind most 0 cs) o limit
+-- The widest and the tallest component of a stack, and the cells of all.
+pub record Bounds (cs : List Component) (wide tall cells : ℕ) : Type 0 where
+  pub widest-is : wide ≡ widest cs
+  pub tallest-is : tall ≡ tallest cs
+  pub cells-is : cells ≡ cellSum cs
+
+-- An outline to lead with: a layout within its height is no wider, and its area is at most that of the greatest height at the
+-- width of the widest component.
+pub record Lead (kind : Kind) (cs : List Component) (o : Outline) : Type 0 where
+  pub wide : 0 < o .width .0
   pub slim : o .width .0 < none
   pub low : o .height .0 ≤ mostLimit
+  pub reached : layoutOf kind (o .height .0) 0 cs .width ≤ o .width .0
+  pub small : areaOf o ≤ widest cs * mostLimit
+
+-- The pass leads with the outline o, and no folding above the limit is smaller.
+pub record Passing (kind : Kind) (cs : List Component) (o : Outline) (limit : ℕ) : Type 0 where
+  pub lead : Lead kind cs o
+  pub leads : Leads (Legal kind cs) (outlineOf cs) (λ most. layoutOf kind most 0 cs) o limit
   pub most : limit ≤ mostLimit
 
 -- The best layout within the height has the smallest area of all.

@@ -11,18 +11,22 @@ ghost use Rattle.best.specs.Asks.{Foldable};
 ghost use Rattle.fold.specs.Calls.{Searched};
 ghost use Rattle.fold.specs.Inner.{FirstLists};
 ghost use Rattle.fold_area.specs.Calls.{byArea, SmallestOf};
-ghost use Rattle.fold_area.specs.Inner.{AreaFound, FirstSmallest};
+ghost use Rattle.fold_area.specs.Inner.{Bounds, Lead, AreaFound, FirstSmallest};
 use best::long;
 use best::product;
 use folding::Measured;
 use folding::Outline;
 use group::NONE;
+use numbers::larger;
 use plan::LISTED;
 use terms::Counted;
 use terms::Kind;
 use terms::MOST_APART;
 use terms::Rows;
 use terms::Slices;
+
+// A stack is planned first for a part of its height, one in twice as many and lower, where that is over the tallest component.
+const LOW: u32 = 4;
 
 // The height of the outline of smallest area, and the limit of the plan that the lists hold. That is 0 where they hold none.
 struct Found {
@@ -36,32 +40,129 @@ fn area(o: Outline) -> u64
     product(o.width.0, o.height.0)
 }
 
-// The one of smaller area; of equals the second, which was found first and is narrower.
+// The one of smaller area; of equals the narrower.
 fn smaller(a: Outline, b: Outline) -> Outline
     ensures { λ r. ⌜ r ≡ smallerOf a b ⌝ }
 {
-    if area(a) < area(b) {
+    let first = area(a);
+    let second = area(b);
+    if first < second {
         return a;
+    }
+    if first == second {
+        if a.width.0 <= b.width.0 {
+            return a;
+        }
     }
     b
 }
 
-// No folding that is at least `least` slices wide and higher than this has a smaller area. Where the outline is all cells of
-// components, none has.
+// No folding that is at least `least` slices wide and higher than this is smaller. If the outline is no wider than that, only
+// one of smaller area is, and where it is all cells of components there is none.
 fn next_limit(o: Outline, least: Slices, cells: u64) -> Rows
     requires { ⌜ (0 < least .0) × (areaOf o ≤ least .0 * mostLimit) ⌝ }
     ensures { λ r. ⌜ r .0 ≡ nextLimit o (least .0) cells ⌝ }
 {
-    let a = area(o);
-    if a <= cells {
+    let most = area(o);
+    if least.0 < o.width.0 {
+        let rows = most / long(least.0);
+        return Rows(rows as u32);
+    }
+    if most <= cells {
         return Rows(0);
     }
-    let rows = (a - 1) / long(least.0);
+    let rows = (most - 1) / long(least.0);
     Rows(rows as u32)
 }
 
-// The smallest area of all, from the stack without a fold down. From outline to outline the width rises, so that one with a
-// smaller area than the best so far is low: the limits above that are left out, and none is below the tallest component.
+// A small area to begin with, that of the stack without a fold or of a low and wide folding. Each plan is for half the height
+// of the one before, the last for the tallest component.
+fn first_lead(
+    kind: Kind,
+    flat: Outline,
+    tallest: Rows,
+    h: &[u16],
+    w: &[u16],
+    g: &[u16],
+    widths: &mut [u32],
+    heights: &mut [u32],
+    ends: &mut [u32],
+    work: &mut [u32],
+) -> Outline
+    requires { ⌜ PlanAsks kind mostLimit
+        (now h) (now w) (now g) (now widths) (now heights) (now ends) (now work) ⌝ }
+    requires { ⌜ Lead kind (componentsIn (now h) (now w) (now g)) flat ⌝ }
+    ensures { λ r. ⌜ Lead kind (componentsIn (now (h .entry)) (now (w .entry)) (now (g .entry))) r ⌝ }
+{
+    let mut lead = flat;
+    let mut known = 0;
+    let mut limit = flat.height.0 / LOW;
+    while tallest.0 < limit {
+        limit = larger(tallest.0, limit / 2);
+        let o = plan::replan(
+            kind,
+            Rows(known),
+            Rows(limit),
+            h,
+            w,
+            g,
+            widths,
+            heights,
+            ends,
+            work,
+        );
+        known = limit;
+        if o.width.0 < NONE {
+            lead = smaller(o, lead);
+        }
+    }
+    lead
+}
+
+// The smallest area of all, from the widest component on. From outline to outline the width rises, so that one smaller than the
+// best so far is low: the limits above that are left out, and none is below the tallest component.
+fn pass(
+    kind: Kind,
+    first: Outline,
+    widest: Slices,
+    tallest: Rows,
+    cells: u64,
+    h: &[u16],
+    w: &[u16],
+    g: &[u16],
+    widths: &mut [u32],
+    heights: &mut [u32],
+    ends: &mut [u32],
+    work: &mut [u32],
+) -> Found
+    requires { ⌜ PlanAsks kind mostLimit
+        (now h) (now w) (now g) (now widths) (now heights) (now ends) (now work) ⌝ }
+    requires { ⌜ Lead kind (componentsIn (now h) (now w) (now g)) first ⌝ }
+    requires { ⌜ Bounds (componentsIn (now h) (now w) (now g)) (widest .0) (tallest .0) cells ⌝ }
+    ensures { λ r. ⌜ AreaFound kind (now (h .entry)) (now (w .entry)) (now (g .entry))
+        (now (widths .exit)) (now (heights .exit)) (now (ends .exit)) (now (work .exit)) r ⌝ }
+{
+    let mut lead = first;
+    let mut known = Rows(0);
+    let mut limit = next_limit(lead, widest, cells);
+    while tallest.0 <= limit.0 {
+        let o = plan::replan(kind, known, limit, h, w, g, widths, heights, ends, work);
+        known = limit;
+        if NONE <= o.width.0 {
+            return Found {
+                height: Rows(lead.height.0),
+                known,
+            };
+        }
+        lead = smaller(o, lead);
+        limit = next_limit(lead, Slices(o.width.0 + 1), cells);
+    }
+    Found {
+        height: Rows(lead.height.0),
+        known,
+    }
+}
+
 fn smallest(
     kind: Kind,
     h: &[u16],
@@ -78,31 +179,38 @@ fn smallest(
         (now (widths .exit)) (now (heights .exit)) (now (ends .exit)) (now (work .exit)) r ⌝ }
 {
     let flat = best::flat_of(h, w, g);
-    let widest = flat.widest.0;
-    let tallest = flat.tallest.0;
-    let cells = flat.cells;
-    let mut lead = Outline {
-        width: Slices(widest),
+    let widest = Slices(flat.widest.0);
+    let tallest = Rows(flat.tallest.0);
+    let unfolded = Outline {
+        width: Slices(flat.widest.0),
         height: Rows(flat.height.0),
     };
-    let mut known = Rows(0);
-    let mut limit = next_limit(lead, Slices(widest), cells);
-    while tallest <= limit.0 {
-        let o = plan::replan(kind, known, limit, h, w, g, widths, heights, ends, work);
-        known = limit;
-        if NONE <= o.width.0 {
-            return Found {
-                height: Rows(lead.height.0),
-                known,
-            };
-        }
-        lead = smaller(o, lead);
-        limit = next_limit(lead, Slices(o.width.0 + 1), cells);
-    }
-    Found {
-        height: Rows(lead.height.0),
-        known,
-    }
+    let first = first_lead(
+        kind,
+        unfolded,
+        tallest,
+        h,
+        w,
+        g,
+        widths,
+        heights,
+        ends,
+        work,
+    );
+    pass(
+        kind,
+        first,
+        widest,
+        tallest,
+        flat.cells,
+        h,
+        w,
+        g,
+        widths,
+        heights,
+        ends,
+        work,
+    )
 }
 
 // The folding of smallest area is the best one within its own height.

@@ -2,11 +2,12 @@
 use Prim.Native.Nat.{ℕ, _+_, _-_, _*_, _/_, _≤_, _<_}
 use mathlib.Core.Path.{_≡_, refl, sym, ap}
 use mathlib.Core.Logic.{_⊎_, inl, inr}
-use mathlib.Core.Bool.{Bool, true, false, cond}
+use mathlib.Core.Bool.{Bool, true, false, cond, _&&_, _||_}
 use native.Mathlib.Nat.{mul-le-mul, mul-le-mul-left, mul-le-mul-right, mul-comm, mul-add, le-of-mul-le-mul-left, lt-mul-div-succ, div-lt-iff-lt-mul, div-le-of-le-mul}
 use native.Mathlib.Omega.{arith}
-use lib.Dec.{leb, ltb}
-use borrow.Author.Tests.{leb-true, ltb-true, ltb-false}
+use lib.Dec.{leb, ltb, eqb}
+use borrow.Author.Tests.{leb-true, leb-false, ltb-true, ltb-false, eqb-true, eqb-false}
+use Rattle.terms.proofs.Bools.{both}
 use Rattle.terms.proofs.Order.{order}
 use Rattle.folding.specs.declared.Outline.{Outline}
 use Rattle.folding.specs.Best.{areaOf, Larger}
@@ -14,7 +15,7 @@ use Rattle.model.specs.Groups.{none}
 use Rattle.model.specs.Layout.{Layout, NoWorse}
 use Rattle.model.specs.Outlines.{outline, outlineBy}
 use Rattle.model.specs.Search.{Search}
-use Rattle.model.specs.Area.{smallerOf, nextLimit}
+use Rattle.model.specs.Area.{larger, smallerOf, nextLimit}
 use Rattle.model.proofs.Choice.{no-wider}
 use Rattle.model.proofs.Best.{layout-high, own-height}
 use Rattle.model.proofs.Table.{Unbeaten, layout-unbeaten}
@@ -29,7 +30,7 @@ larger-of o x a w = go (order (areaOf x) (areaOf o))
     go (inl h) = inr (omega arith, w)
     go (inr h) = inl h
 
-no-larger : (o x : Outline) → Larger o x → areaOf o ≤ areaOf x
+pub no-larger : (o x : Outline) → Larger o x → areaOf o ≤ areaOf x
 no-larger o x (inl h) = omega arith
 no-larger o x (inr h) = omega (arith, h .0)
 
@@ -49,60 +50,104 @@ one-smallest o p some (inr h) (inr k) =
     let down : o .width .0 * o .height .0 ≤ o .width .0 * p .height .0 = omega arith in
     same-outline (sym w) (omega (arith, le-of-mul-le-mul-left up some, le-of-mul-le-mul-left down some))
 
--- The smaller of two is one of them, and its area is at most either's.
-pub smaller-either : (C : Outline → Type 0) (a b : Outline) → (areaOf a < areaOf b → C a) → (areaOf b ≤ areaOf a → C b) → C (smallerOf a b)
-smaller-either C a b = go (ltb (areaOf a) (areaOf b)) refl
+pub larger-trans : (o p q : Outline) → Larger o p → Larger p q → Larger o q
+larger-trans o p q (inl h) k = inl (omega (arith, no-larger p q k))
+larger-trans o p q (inr h) (inl k) = inl (omega (arith, h .0))
+larger-trans o p q (inr h) (inr k) = inr (omega (arith, h .0, k .0), omega (arith, h .1, k .1))
+
+-- The test says so, and one of two is not larger than the other.
+pub larger-true : (a b : Outline) → larger a b ≡ true → Larger a b
+larger-true a b = go (ltb (areaOf a) (areaOf b)) refl
   where
-    go : (t : Bool) → ltb (areaOf a) (areaOf b) ≡ t → (areaOf a < areaOf b → C a) → (areaOf b ≤ areaOf a → C b) → C (cond t a b)
-    go true e u v = u (ltb-true _ _ e)
-    go false e u v = v (ltb-false _ _ e)
+    go : (t : Bool) → ltb (areaOf a) (areaOf b) ≡ t → t || (eqb (areaOf a) (areaOf b) && leb (a .width .0) (b .width .0)) ≡ true → Larger a b
+    go true t h = inl (ltb-true _ _ t)
+    go false t h = let d = both (eqb (areaOf a) (areaOf b)) (leb (a .width .0) (b .width .0)) h in inr (eqb-true _ _ (d .0), leb-true _ _ (d .1))
+
+larger-false : (a b : Outline) → larger a b ≡ false → Larger b a
+larger-false a b = go (ltb (areaOf a) (areaOf b)) refl (eqb (areaOf a) (areaOf b)) refl
+  where
+    go : (t : Bool) → ltb (areaOf a) (areaOf b) ≡ t → (u : Bool) → eqb (areaOf a) (areaOf b) ≡ u → t || (u && leb (a .width .0) (b .width .0)) ≡ false → Larger b a
+    go true e u f h = let z : _≡_ {A = ℕ} 0 1 = cc in absurd (omega arith)
+    go false e true f h = inr (sym (eqb-true _ _ f), omega (arith, leb-false (a .width .0) (b .width .0) h))
+    go false e false f h = distinct (ltb-false (areaOf a) (areaOf b) e) (order (areaOf a) (areaOf b))
+      where
+        distinct : areaOf b ≤ areaOf a → (areaOf a ≤ areaOf b) ⊎ (areaOf b < areaOf a) → Larger b a
+        distinct m (inl n) = absurd (eqb-false (areaOf a) (areaOf b) f (omega arith))
+        distinct m (inr n) = inl n
+
+-- The smaller of two is one of them, and not larger than either.
+pub smaller-either : (C : Outline → Type 0) (a b : Outline) → C a → C b → C (smallerOf a b)
+smaller-either C a b = go (larger a b)
+  where
+    go : (t : Bool) → C a → C b → C (cond t a b)
+    go true u v = u
+    go false u v = v
+
+smaller-first : (a b : Outline) → Larger (smallerOf a b) a
+smaller-first a b = go (larger a b) refl
+  where
+    go : (t : Bool) → larger a b ≡ t → Larger (cond t a b) a
+    go true e = inr (refl, omega arith)
+    go false e = larger-false a b e
+
+pub smaller-second : (a b : Outline) → Larger (smallerOf a b) b
+smaller-second a b = go (larger a b) refl
+  where
+    go : (t : Bool) → larger a b ≡ t → Larger (cond t a b) b
+    go true e = larger-true a b e
+    go false e = inr (refl, omega arith)
 
 -- What is at least so wide and above the next limit is larger.
-pub skipped : (o x : Outline) (least cells : ℕ) → 0 < least → o .width .0 ≤ least → least ≤ x .width .0 → cells ≤ areaOf x → nextLimit o least cells < x .height .0 → Larger o x
-skipped o x least cells p w v c = go (leb (areaOf o) cells) refl
+pub skipped : (o x : Outline) (least cells : ℕ) → 0 < least → least ≤ x .width .0 → cells ≤ areaOf x → nextLimit o least cells < x .height .0 → Larger o x
+skipped o x least cells p v c = go (leb (o .width .0) least) refl (leb (areaOf o) cells) refl
   where
-    go : (t : Bool) → leb (areaOf o) cells ≡ t → cond t 0 ((areaOf o - 1) / least) < x .height .0 → Larger o x
-    go true e h = larger-of o x (omega (arith, leb-true (areaOf o) cells e)) (omega arith)
-    go false e h =
-        let k : (areaOf o - 1) / least + 1 ≤ x .height .0 = omega arith in
-        let a : areaOf o ≤ least * x .height .0 = omega (arith, lt-mul-div-succ (areaOf o - 1) p, mul-le-mul-left least k) in
-        larger-of o x (omega (arith, mul-le-mul-right (x .height .0) v)) (omega arith)
+    above : (a : ℕ) → a / least < x .height .0 → a < areaOf x
+    above a h =
+        let k : a / least + 1 ≤ x .height .0 = omega arith in
+        omega (arith, lt-mul-div-succ a p, mul-le-mul-left least k, mul-le-mul-right (x .height .0) v)
+
+    go : (t : Bool) → leb (o .width .0) least ≡ t → (u : Bool) → leb (areaOf o) cells ≡ u → cond t (cond u 0 ((areaOf o - 1) / least)) (areaOf o / least) < x .height .0 → Larger o x
+    go true e true f h = larger-of o x (omega (arith, leb-true (areaOf o) cells f)) (omega (arith, leb-true (o .width .0) least e))
+    go true e false f h = larger-of o x (omega (arith, above (areaOf o - 1) h)) (omega (arith, leb-true (o .width .0) least e))
+    go false e u f h = inl (above (areaOf o) h)
 
 -- An area of at most w slices by h rows leaves limits under h to what is wider than w.
 pub limit-falls : (o : Outline) (w h cells : ℕ) → areaOf o ≤ w * h → 0 < h → nextLimit o (w + 1) cells < h
-limit-falls o w h cells a p = go (leb (areaOf o) cells) refl
+limit-falls o w h cells a p = go (leb (o .width .0) (w + 1)) (leb (areaOf o) cells)
   where
-    go : (t : Bool) → leb (areaOf o) cells ≡ t → cond t 0 ((areaOf o - 1) / (w + 1)) < h
-    go true e = p
-    go false e =
-        let more : areaOf o - 1 < h * (w + 1) = omega (arith, mul-comm w h, mul-add h w 1) in
+    below : (b : ℕ) → b ≤ areaOf o → b / (w + 1) < h
+    below b l =
+        let more : b < h * (w + 1) = omega (arith, mul-comm w h, mul-add h w 1) in
         div-lt-iff-lt-mul {k = w + 1} (omega arith) .1 more
 
-pub limit-first : (o : Outline) (w h cells : ℕ) → areaOf o ≤ w * h → nextLimit o w cells ≤ h
-limit-first o w h cells a = go (leb (areaOf o) cells)
-  where
-    go : (t : Bool) → cond t 0 ((areaOf o - 1) / w) ≤ h
-    go true = omega arith
-    go false = let less : areaOf o - 1 ≤ w * h = omega arith in div-le-of-le-mul w less
+    go : (t u : Bool) → cond t (cond u 0 ((areaOf o - 1) / (w + 1))) (areaOf o / (w + 1)) < h
+    go true true = p
+    go true false = below (areaOf o - 1) (omega arith)
+    go false u = below (areaOf o) (omega arith)
 
--- No folding above the limit is smaller than o, and none within it is narrower. The height of o is limit enough for its width.
+pub limit-most : (o : Outline) (w h cells : ℕ) → areaOf o ≤ w * h → nextLimit o w cells ≤ h
+limit-most o w h cells a = go (leb (o .width .0) w) (leb (areaOf o) cells)
+  where
+    below : (b : ℕ) → b ≤ areaOf o → b / w ≤ h
+    below b l = let less : b ≤ w * h = omega arith in div-le-of-le-mul w less
+
+    go : (t u : Bool) → cond t (cond u 0 ((areaOf o - 1) / w)) (areaOf o / w) ≤ h
+    go true true = omega arith
+    go true false = below (areaOf o - 1) (omega arith)
+    go false u = below (areaOf o) (omega arith)
+
+-- No folding above the limit is smaller than o. The height of o is limit enough for its width.
 pub record Leads {F : Type 0} (Legal : F → Type 0) (outlineOf : F → Outline) (best : ℕ → Layout) (o : Outline) (limit : ℕ) : Type 0 where
   pub wide : 0 < o .width .0
   pub above : (f : F) → Legal f → limit < outlineOf f .height .0 → Larger o (outlineOf f)
-  pub slim : (f : F) → Legal f → outlineOf f .height .0 ≤ limit → o .width .0 ≤ outlineOf f .width .0
   pub reached : best (o .height .0) .width ≤ o .width .0
 
 module _ {F : Type 0} {Legal : F → Type 0} {outlineOf : F → Outline} {best : ℕ → Layout} (s : Search Legal outlineOf best) where
   module _ (cells : ℕ) (most : (f : F) → Legal f → cells ≤ areaOf (outlineOf f)) where
-    -- As wide as every folding must be.
-    pub leads-first : (o : Outline) → 0 < o .width .0 → ((f : F) → Legal f → o .width .0 ≤ outlineOf f .width .0) → best (o .height .0) .width ≤ o .width .0
-        → Leads Legal outlineOf best o (nextLimit o (o .width .0) cells)
-    leads-first o p n r = record {
-      wide = p;
-      above = λ f l h. skipped o (outlineOf f) (o .width .0) cells p (omega arith) (n f l) (most f l) h;
-      slim = λ f l h. n f l;
-      reached = r;
-    }
+    -- Where every folding is at least so wide.
+    pub leads-first : (o : Outline) (least : ℕ) → 0 < o .width .0 → 0 < least → ((f : F) → Legal f → least ≤ outlineOf f .width .0) → best (o .height .0) .width ≤ o .width .0
+        → Leads Legal outlineOf best o (nextLimit o least cells)
+    leads-first o least p q n r = record { wide = p; above = λ f l h. skipped o (outlineOf f) least cells q (n f l) (most f l) h; reached = r }
 
     module _ (o : Outline) (limit : ℕ) (i : Leads Legal outlineOf best o limit) (met : best limit .width < none) where
       abbrev here : Outline
@@ -111,17 +156,8 @@ module _ {F : Type 0} {Legal : F → Type 0} {outlineOf : F → Outline} {best :
       abbrev next : Outline
       next = smallerOf here o
 
-      slim-here : o .width .0 ≤ best limit .width
-      slim-here = let r = s .some limit met in rw (r .2) at (i .slim (r .0) (r .1) (rw (r .2) (s .keeps limit met)))
-
-      pub next-slim : next .width .0 ≤ best limit .width
-      next-slim = smaller-either (λ x. x .width .0 ≤ best limit .width) here o (λ h. omega arith) (λ h. slim-here)
-
       pub next-small : areaOf next ≤ best limit .width * best limit .height
-      next-small = smaller-either (λ x. areaOf x ≤ best limit .width * best limit .height) here o (λ h. omega arith) (λ h. h)
-
-      next-wide : 0 < next .width .0
-      next-wide = smaller-either (λ x. 0 < x .width .0) here o (λ h. omega (arith, slim-here, i .wide)) (λ h. i .wide)
+      next-small = no-larger next here (smaller-first here o)
 
       pub falls : nextLimit next (best limit .width + 1) cells < limit
       falls = omega (arith, limit-falls next (best limit .width) (best limit .height) cells next-small (layout-high s limit met), s .keeps limit met)
@@ -129,25 +165,19 @@ module _ {F : Type 0} {Legal : F → Type 0} {outlineOf : F → Outline} {best :
       above-next : (f : F) → Legal f → nextLimit next (best limit .width + 1) cells < outlineOf f .height .0 → Larger next (outlineOf f)
       above-next f l h = go (order (outlineOf f .height .0) limit)
         where
-          higher : Larger o (outlineOf f) → Larger next (outlineOf f)
-          higher n = smaller-either (λ x. Larger x (outlineOf f)) here o (λ k. inl (omega (arith, no-larger o (outlineOf f) n))) (λ k. n)
-
           within : NoWorse (best limit) (outlineOf f .width .0) (outlineOf f .height .0) → Larger next (outlineOf f)
-          within (inl n) = skipped next (outlineOf f) (best limit .width + 1) cells (omega arith) (omega (arith, next-slim)) (omega arith) (most f l) h
-          within (inr n) =
-              let w : best limit .width ≤ outlineOf f .width .0 = omega (arith, n .0) in
-              larger-of next (outlineOf f) (omega (arith, next-small, mul-le-mul w (n .1))) (omega (arith, next-slim, n .0))
+          within (inl n) = skipped next (outlineOf f) (best limit .width + 1) cells (omega arith) (omega arith) (most f l) h
+          within (inr n) = larger-than next here (outlineOf f) (smaller-first here o) (omega (arith, n .0)) (n .1)
 
           go : (outlineOf f .height .0 ≤ limit) ⊎ (limit < outlineOf f .height .0) → Larger next (outlineOf f)
           go (inl k) = within (s .every limit f l k .0)
-          go (inr k) = higher (i .above f l k)
+          go (inr k) = larger-trans next o (outlineOf f) (smaller-second here o) (i .above f l k)
 
-      pub leads-on : Leads Legal outlineOf best next (nextLimit next (best limit .width + 1) cells)
-      leads-on = record {
-        wide = next-wide;
+      pub leads-on : 0 < best limit .width → Leads Legal outlineOf best next (nextLimit next (best limit .width + 1) cells)
+      leads-on some = record {
+        wide = smaller-either (λ x. 0 < x .width .0) here o some (i .wide);
         above = above-next;
-        slim = λ f l h. omega (arith, next-slim, no-wider (s .every limit f l (omega (arith, falls)) .0));
-        reached = smaller-either (λ x. best (x .height .0) .width ≤ x .width .0) here o (λ h. own-height s limit met) (λ h. i .reached);
+        reached = smaller-either (λ x. best (x .height .0) .width ≤ x .width .0) here o (own-height s limit met) (i .reached);
       }
 
   -- The pass ends where no folding is within the limit.
