@@ -139,8 +139,7 @@ folds_outline folds_to_width(const uint8_t *file, size_t file_len, bool nested, 
                              uint32_t *placements, size_t placements_len, uint32_t *work, size_t work_len);
 
 /* Folds to the smallest area: of all legal foldings, one whose outline has the least width times height, and of equal
- * areas the narrowest. Which folding of that outline is written is free. The area is at most that of the stack without
- * a fold, so it is under 2^32; other foldings may have more.
+ * areas the narrowest. Which folding of that outline is written is free.
  * Writes the first 3n numbers of placements; all beyond stays unchanged.
  * Refusals 1 to 6; 8 for fewer than n whole placements or a work buffer under FOLDS_WORK. There is always a result
  * otherwise.

@@ -10,12 +10,11 @@ use lib.Seq.{take-all}
 use Rattle.terms.specs.declared.Component.{Component}
 use Rattle.terms.specs.declared.Kind.{Kind}
 use Rattle.terms.specs.declared.Kind.the-variants.{Apart}
-use Rattle.terms.specs.Component.{componentIn, componentsIn, cellSum}
+use Rattle.terms.specs.Component.{componentIn, componentsIn, cellSum, tallest}
 use Rattle.terms.proofs.Answers.{most-256}
 use Rattle.group.proofs.Gaps.{gap-behind-all}
 use Rattle.layout.specs.Plan.{StackLists}
 use Rattle.layout.proofs.Columns.{components-length}
-use Rattle.folding.proofs.Cells.{tallest}
 use Rattle.plan.proofs.Columns.{component-at}
 use Rattle.plan.specs.declared.Sizes.{Sizes}
 use Rattle.plan.specs.Asks.{SizesAsk, SizesOf}

@@ -7,10 +7,9 @@ use Rattle.terms.specs.Numbers.{mostSize, mostApart, mostLimit}
 use Rattle.terms.specs.declared.Component.{Component}
 use Rattle.terms.specs.declared.Kind.{Kind}
 use Rattle.terms.specs.Answer.{Answer, refusal, result}
-use Rattle.terms.specs.Component.{componentsIn, cellSum}
+use Rattle.terms.specs.Component.{componentsIn, cellSum, tallest}
 use Rattle.folding.specs.declared.Outline.{Outline}
 use Rattle.folding.specs.Placement.{placementsOf}
-use Rattle.folding.proofs.Cells.{tallest}
 use Rattle.group.specs.Group.{none, widest, flatHeight}
 use Rattle.layout.specs.Layout.{layoutOf}
 use Rattle.layout.proofs.Folds.{Folds}
@@ -28,7 +27,7 @@ abbrev pub Replannable : Kind → ℕ → ℕ → List ℕ → List ℕ → List
 Replannable kind known limit hs ws gs widths heights ends work =
     PlanAsks kind limit hs ws gs widths heights ends work × Known kind known limit hs ws gs widths heights ends work
 
--- A folding with that outline is written where there is one.
+-- A folding with the outline of the best layout for the limit is written where there is one.
 abbrev pub Written : Kind → List Component → ℕ → List ℕ → List ℕ → Answer Outline → Type 0
 Written kind cs limit out out′ (refusal k) = (k ≡ 9) × (none ≤ layoutOf kind limit 0 cs .width) × (out′ ≡ out)
 Written kind cs limit out out′ (result o) =
@@ -44,13 +43,13 @@ pub record CellsAsk (hs ws : List ℕ) : Type 0 where
   pub slim : (i : ℕ) → getD ws i 0 ≤ mostSize
 
 -- No stack has more cells in its components.
-abbrev pub mostArea : ℕ
-mostArea = mostApart * mostSize * mostSize
+abbrev pub mostCells : ℕ
+mostCells = mostApart * mostSize * mostSize
 
 pub record CellsOf (hs ws : List ℕ) (r : Cells) : Type 0 where
   pub count-is : (gs : List ℕ) → r .count ≡ cellSum (componentsIn hs ws gs)
   pub tallest-is : (gs : List ℕ) → r .tallest .0 ≡ tallest (componentsIn hs ws gs)
-  pub most : r .count ≤ mostArea
+  pub most : r .count ≤ mostCells
 
 -- A stack without a fold.
 pub record Unfolded (cs : List Component) (f : Flat) : Type 0 where
@@ -59,4 +58,4 @@ pub record Unfolded (cs : List Component) (f : Flat) : Type 0 where
   pub height-is : f .height .0 ≡ flatHeight 0 cs
   pub low : f .height .0 ≤ mostLimit
   pub cells-is : f .cells ≡ cellSum cs
-  pub cells-most : f .cells ≤ mostArea
+  pub cells-most : f .cells ≤ mostCells

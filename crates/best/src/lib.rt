@@ -1,4 +1,4 @@
-// What the calls that write a folding share: a stack without a fold, and the best layout for a height, planned and written.
+// A stack without a fold, and the best layout for a height, planned and written: for the calls that write a folding.
 ghost use mathlib.Core.Path.{_≡_};
 ghost use Prim.Native.Nat.{_*_, _<_};
 ghost use lib.ListN.{length};
@@ -16,7 +16,7 @@ use terms::Refusal;
 use terms::Rows;
 use terms::Slices;
 
-// The cells of some components, each one's width times its height, and the tallest of them.
+// The cells of some components, each one's width times its height, and the height of the tallest component.
 struct Cells {
     count: u64,
     tallest: Rows,
@@ -78,6 +78,7 @@ pub fn flat_of(h: &[u16], w: &[u16], g: &[u16]) -> Flat
 }
 
 // Writes a folding with the outline of the best layout for a height, where the lists hold a plan for the limit `known`.
+// The content of the work buffer is free afterwards.
 pub fn write_best(
     kind: Kind,
     known: Rows,

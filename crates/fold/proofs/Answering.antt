@@ -1,4 +1,5 @@
--- The answers of the two calls, from their checks and from the search.
+-- The answers of the two calls, from their checks and from the search. With a limit of 1, which is in range, the checks are
+-- those of the smallest area, which has none.
 use Prim.Native.Nat.{ℕ, _*_, _≤_}
 use mathlib.Core.Path.{_≡_, refl, sym}
 use mathlib.Core.List.{List}

@@ -8,16 +8,16 @@ use borrow.Author.Tests.{le-leb, lt-leb, le-ltb, lt-ltb, leb-true, ltb-false, no
 use Rattle.terms.specs.Answer.{Answer, refusal, result, refuseIf}
 use Rattle.terms.proofs.Answers.{passed, result-same}
 use Rattle.terms.proofs.Bools.{both}
-use Rattle.fold.specs.Calls.{inLimit, lentChecks, foldChecks}
+use Rattle.fold.specs.Calls.{inLimit, roomChecks, foldChecks}
 
 module _ {A : Type 0} (out work n : ℕ) (v : A) where
-  pub out-short : out / 3 < n → refusal 8 ≡ lentChecks out work n v
+  pub out-short : out / 3 < n → refusal 8 ≡ roomChecks out work n v
   out-short h = rw (lt-ltb (out / 3) n h)
 
-  pub work-short : n ≤ out / 3 → work < 8192 → refusal 8 ≡ lentChecks out work n v
+  pub work-short : n ≤ out / 3 → work < 8192 → refusal 8 ≡ roomChecks out work n v
   work-short o h = rw (le-ltb (out / 3) n o, lt-ltb work 8192 h)
 
-  pub room-enough : n ≤ out / 3 → 8192 ≤ work → result v ≡ lentChecks out work n v
+  pub room-enough : n ≤ out / 3 → 8192 ≤ work → result v ≡ roomChecks out work n v
   room-enough o h = rw (le-ltb (out / 3) n o, le-ltb work 8192 h)
 
 module _ {A : Type 0} (limit out work n : ℕ) (v : A) where
@@ -29,7 +29,7 @@ module _ {A : Type 0} (limit out work n : ℕ) (v : A) where
     limit-over h = rw (le-leb 1 limit low, lt-leb limit 2000000 h)
 
     module _ (high : limit ≤ 2000000) where
-      pub limit-kept : lentChecks out work n v ≡ foldChecks limit out work n v
+      pub limit-kept : roomChecks out work n v ≡ foldChecks limit out work n v
       limit-kept = rw (le-leb 1 limit low, le-leb limit 2000000 high)
 
       pub all-well : n ≤ out / 3 → 8192 ≤ work → result v ≡ foldChecks limit out work n v

@@ -18,7 +18,7 @@ use Rattle.folding.specs.Legal.{Legal}
 use Rattle.folding.specs.Outline.{outlineOf}
 use Rattle.folding.specs.Calls.{measureIn, measureOf}
 use Rattle.folding.specs.Best.{BestForHeight, BestForWidth, UnmeetableHeight, UnmeetableWidth}
-use Rattle.layout.specs.Table.{outline}
+use Rattle.model.proofs.Area.{same-outline}
 use Rattle.fold.specs.Calls.{foldChecks, validOf, Wanted, Searched, Answered}
 use Rattle.fold.proofs.Checks.{lent, handed-on}
 
@@ -28,9 +28,6 @@ both-ways a b c d a′ b′ c′ d′ p q r s (inl x) (inl y) = absurd (omega ar
 both-ways a b c d a′ b′ c′ d′ p q r s (inl x) (inr y) = absurd (omega (arith, y .0))
 both-ways a b c d a′ b′ c′ d′ p q r s (inr x) (inl y) = absurd (omega (arith, x .0))
 both-ways a b c d a′ b′ c′ d′ p q r s (inr x) (inr y) = (omega (arith, x .0), omega (arith, x .1, y .1))
-
-same-outline : (a b c d : ℕ) → a ≡ c → b ≡ d → outline a b ≡ outline c d
-same-outline a b c d e f = rw (e, f)
 
 abbrev wide : Outline → ℕ
 wide o = o .width .0
@@ -42,12 +39,12 @@ module _ (kind : Kind) (cs : List Component) (limit : ℕ) (ps qs : List Placeme
   pub one-for-height : BestForHeight kind cs limit ps o → BestForHeight kind cs limit qs p → o ≡ p
   one-for-height b c =
       let e = both-ways (wide o) (high o) (wide p) (high p) _ _ _ _ (ap wide (b .has)) (ap high (b .has)) (ap wide (c .has)) (ap high (c .has)) (b .best qs (c .is-legal) (c .keeps)) (c .best ps (b .is-legal) (b .keeps)) in
-      same-outline (wide o) (high o) (wide p) (high p) (e .0) (e .1)
+      same-outline (e .0) (e .1)
 
   pub one-for-width : BestForWidth kind cs limit ps o → BestForWidth kind cs limit qs p → o ≡ p
   one-for-width b c =
       let e = both-ways (high o) (wide o) (high p) (wide p) _ _ _ _ (ap high (b .has)) (ap wide (b .has)) (ap high (c .has)) (ap wide (c .has)) (b .best qs (c .is-legal) (c .keeps)) (c .best ps (b .is-legal) (b .keeps)) in
-      same-outline (wide o) (high o) (wide p) (high p) (e .1) (e .0)
+      same-outline (e .1) (e .0)
 
 module _ (wanted : Wanted) (cs : List Component) (one : (ps qs : List Placement) (o p : Outline) → wanted .Best cs ps o → wanted .Best cs qs p → o ≡ p)
     (met : (ps : List Placement) (o : Outline) → wanted .Best cs ps o → wanted .Unmeetable cs → ⊥) where

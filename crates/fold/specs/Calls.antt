@@ -1,4 +1,5 @@
--- What the two fold calls answer, and what the lent buffers hold afterwards (document 01, "Calls"; demand 3).
+-- What the two fold calls answer, and what the lent buffers hold afterwards (document 01, "Calls"; demand 3). The smallest
+-- area shares `Wanted` to `Answered`.
 use Prim.Native.Nat.{ℕ, _*_, _/_}
 use mathlib.Core.Path.{_≡_}
 use mathlib.Core.List.{List}
@@ -23,14 +24,14 @@ inLimit x = leb 1 x && leb x mostLimit
 abbrev pub workCheck : {A : Type 0} → ℕ → A → Answer A
 workCheck work v = refuseIf (ltb work leastWork) 8 (result v)
 
--- Refusal 8, "fewer than n placements, .. a short work buffer". n is the number of components, `out` and `work` are the lengths
--- of the two lent buffers.
-abbrev pub lentChecks : {A : Type 0} → ℕ → ℕ → ℕ → A → Answer A
-lentChecks out work n v = refuseIf (ltb (out / 3) n) 8 (workCheck work v)
+-- Refusal 8, "fewer than n placements, .. a short work buffer". n is the number of components, `out` and `work` are the
+-- lengths of the two lent buffers.
+abbrev pub roomChecks : {A : Type 0} → ℕ → ℕ → ℕ → A → Answer A
+roomChecks out work n v = refuseIf (ltb (out / 3) n) 8 (workCheck work v)
 
 -- Refusal 7, "H or W outside its range", then 8: what a fold call checks behind the file's own refusals.
 abbrev pub foldChecks : {A : Type 0} → ℕ → ℕ → ℕ → ℕ → A → Answer A
-foldChecks limit out work n v = refuseIf (not (inLimit limit)) 7 (lentChecks out work n v)
+foldChecks limit out work n v = refuseIf (not (inLimit limit)) 7 (roomChecks out work n v)
 
 -- "Input is valid and buffers are long enough for a call where none of its refusals but 9 applies": refusals 1 to 8 in
 -- document 01's order, or the stack's components.
@@ -60,6 +61,7 @@ module _ (wanted : Wanted) where
   Answered out work out′ work′ answer (refusal k) = (answer ≡ refusal k) × (out′ ≡ out) × (work′ ≡ work)
   Answered out work out′ work′ answer (result cs) = Searched cs out out′ answer
 
+-- By a height and by a width.
 abbrev pub byHeight : Kind → ℕ → Wanted
 byHeight kind limit = record { Best = λ cs. BestForHeight kind cs limit; Unmeetable = λ cs. UnmeetableHeight kind cs limit }
 
@@ -68,8 +70,10 @@ byWidth kind limit = record { Best = λ cs. BestForWidth kind cs limit; Unmeetab
 
 -- "Fold to height H: writes a legal folding of height at most H; the outline is the narrowest, and of those the lowest."
 abbrev pub ToHeight : Kind → List ℕ → ℕ → List ℕ → List ℕ → Answer Outline → List ℕ → List ℕ → Type 0
-ToHeight kind file limit out work answer out′ work′ = Answered (byHeight kind limit) out work out′ work′ answer (validOf kind file limit out work)
+ToHeight kind file limit out work answer out′ work′ =
+    Answered (byHeight kind limit) out work out′ work′ answer (validOf kind file limit out work)
 
 -- "Fold to width W: width at most W; the lowest, and of those the narrowest."
 abbrev pub ToWidth : Kind → List ℕ → ℕ → List ℕ → List ℕ → Answer Outline → List ℕ → List ℕ → Type 0
-ToWidth kind file limit out work answer out′ work′ = Answered (byWidth kind limit) out work out′ work′ answer (validOf kind file limit out work)
+ToWidth kind file limit out work answer out′ work′ =
+    Answered (byWidth kind limit) out work out′ work′ answer (validOf kind file limit out work)

@@ -5,8 +5,8 @@ ghost use Rattle.terms.specs.Numbers.{mostLimit};
 ghost use Rattle.terms.specs.Answer.{countAnswer};
 ghost use Rattle.terms.specs.Component.{componentsIn};
 ghost use Rattle.folding.specs.Calls.{measuredAnswer};
-ghost use Rattle.best.specs.Asks.{Foldable, Written, mostArea};
-ghost use Rattle.fold.specs.Calls.{lentChecks, foldChecks, byHeight, byWidth, Searched, ToHeight, ToWidth};
+ghost use Rattle.best.specs.Asks.{Foldable, Written, mostCells};
+ghost use Rattle.fold.specs.Calls.{roomChecks, foldChecks, byHeight, byWidth, Searched, ToHeight, ToWidth};
 ghost use Rattle.fold.specs.Inner.{FirstLists, FirstAnswered, LeastFound, LeastAsks};
 use best::long;
 use best::product;
@@ -48,7 +48,7 @@ struct Least {
 
 // Refusal 8 of a call that writes a folding, with buffers of these lengths lent.
 pub fn check_room(n: usize, out: usize, work: usize) -> Counted
-    ensures { λ r. ⌜ countAnswer r ≡ lentChecks out work n n ⌝ }
+    ensures { λ r. ⌜ countAnswer r ≡ roomChecks out work n n ⌝ }
 {
     if out / 3 < n {
         return Counted::Refused(Refusal::ShortBuffer);
@@ -106,7 +106,7 @@ fn write_low(
 
 // The height to try first: the components' cells at the width asked, and what stays empty.
 fn first_guess(cells: u64, most: Slices) -> u64
-    requires { ⌜ (cells ≤ mostArea) × (0 < most .0) ⌝ }
+    requires { ⌜ (cells ≤ mostCells) × (0 < most .0) ⌝ }
 {
     let rows = cells / long(most.0);
     rows + rows / SPARE

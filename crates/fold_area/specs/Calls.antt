@@ -8,18 +8,19 @@ use Rattle.terms.specs.Answer.{Answer, andThen}
 use Rattle.stack.specs.File.{checkOf}
 use Rattle.folding.specs.declared.Outline.{Outline}
 use Rattle.folding.specs.Best.{SmallestArea}
-use Rattle.fold.specs.Calls.{lentChecks, Wanted, Answered}
+use Rattle.fold.specs.Calls.{roomChecks, Wanted, Answered}
 
--- "The call borrows and refuses as the folds do, without 7 and 9": refusals 1 to 6 and 8 in document 01's order, or the stack's
--- components.
+-- "The call borrows and refuses as the folds do, without 7 and 9": refusals 1 to 6 and 8 in document 01's order, or the
+-- stack's components.
 abbrev pub areaValidOf : Kind → List ℕ → List ℕ → List ℕ → Answer (List Component)
-areaValidOf kind file out work = andThen (checkOf kind file) (λ cs. lentChecks (length out) (length work) (length cs) cs)
+areaValidOf kind file out work = andThen (checkOf kind file) (λ cs. roomChecks (length out) (length work) (length cs) cs)
 
 -- There is no limit, so there is always a folding.
 abbrev pub byArea : Kind → Wanted
 byArea kind = record { Best = λ cs. SmallestArea kind cs; Unmeetable = λ cs. ⊥ }
 
--- "the outline whose width times height is least, the narrower of equals, with a folding that has it"; "which folding with that
--- outline is free".
+-- "the outline whose width times height is least, the narrower of equals, with a folding that has it"; "which folding with
+-- that outline is free".
 abbrev pub SmallestOf : Kind → List ℕ → List ℕ → List ℕ → Answer Outline → List ℕ → List ℕ → Type 0
-SmallestOf kind file out work answer out′ work′ = Answered (byArea kind) out work out′ work′ answer (areaValidOf kind file out work)
+SmallestOf kind file out work answer out′ work′ =
+    Answered (byArea kind) out work out′ work′ answer (areaValidOf kind file out work)

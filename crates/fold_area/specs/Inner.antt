@@ -7,19 +7,18 @@ use Rattle.terms.specs.Numbers.{mostLimit}
 use Rattle.terms.specs.declared.Component.{Component}
 use Rattle.terms.specs.declared.Kind.{Kind}
 use Rattle.terms.specs.Answer.{Answer}
-use Rattle.terms.specs.Component.{componentsIn, cellSum}
+use Rattle.terms.specs.Component.{componentsIn, cellSum, tallest}
 use Rattle.folding.specs.declared.Outline.{Outline}
 use Rattle.folding.specs.declared.Placement.{Placement}
 use Rattle.folding.specs.Legal.{Legal}
 use Rattle.folding.specs.Outline.{outlineOf}
 use Rattle.folding.specs.Best.{areaOf, Larger}
-use Rattle.folding.proofs.Cells.{tallest}
-use Rattle.model.proofs.Area.{Leads}
+use Rattle.model.specs.Area.{Leads}
 use Rattle.group.specs.Group.{none, widest}
 use Rattle.layout.specs.Layout.{layoutOf}
 use Rattle.plan.specs.Asks.{bestAt}
 use Rattle.plan.specs.Memory.{Known}
-use Rattle.fold.specs.Calls.{lentChecks, Answered}
+use Rattle.fold.specs.Calls.{roomChecks, Answered}
 use Rattle.fold_area.specs.declared.Found.{Found}
 use Rattle.fold_area.specs.Calls.{byArea}
 
@@ -55,8 +54,9 @@ pub record AreaFound (kind : Kind) (hs ws gs widths heights ends work : List ℕ
   pub smallest-for : SmallestFor kind (componentsIn hs ws gs) (r .height .0)
   pub held : Known kind (r .known .0) 0 hs ws gs widths heights ends work
 
--- What the call answers for the stack in the first n entries of three lists: its checks behind the file's own refusals, and then
--- the search.
+-- What the call answers for the stack in the first n entries of three lists: its checks behind the file's own refusals, and
+-- then the search.
 abbrev pub FirstSmallest : Kind → ℕ → List ℕ → List ℕ → List ℕ → List ℕ → List ℕ → Answer Outline → List ℕ → List ℕ → Type 0
 FirstSmallest kind n hs ws gs out work answer out′ work′ =
-    Answered (byArea kind) out work out′ work′ answer (lentChecks (length out) (length work) n (componentsIn (take n hs) (take n ws) (take n gs)))
+    Answered (byArea kind) out work out′ work′ answer
+    (roomChecks (length out) (length work) n (componentsIn (take n hs) (take n ws) (take n gs)))

@@ -57,8 +57,8 @@ fn smaller(a: Outline, b: Outline) -> Outline
     b
 }
 
-// No folding that is at least `least` slices wide and higher than this is smaller. If the outline is no wider than that, only
-// one of smaller area is, and where it is all cells of components there is none.
+// No folding that is at least `least` slices wide and higher than this is smaller than the outline. Beside one no wider than
+// that it would need a smaller area, and no area is under that of the components' cells.
 fn next_limit(o: Outline, least: Slices, cells: u64) -> Rows
     requires { ⌜ (0 < least .0) × (areaOf o ≤ least .0 * mostLimit) ⌝ }
     ensures { λ r. ⌜ r .0 ≡ nextLimit o (least .0) cells ⌝ }
@@ -119,8 +119,8 @@ fn first_lead(
     lead
 }
 
-// The smallest area of all, from the widest component on. From outline to outline the width rises, so that one smaller than the
-// best so far is low: the limits above that are left out, and none is below the tallest component.
+// The smallest area of all. No folding is narrower than the widest component, and behind each outline found all are wider, so
+// one smaller than the best so far is low: the limits above that are left out, and none is below the tallest component.
 fn pass(
     kind: Kind,
     first: Outline,

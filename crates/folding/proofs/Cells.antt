@@ -8,7 +8,7 @@ use native.Mathlib.Decide.{decLe, decLt}
 use native.Mathlib.Omega.{arith}
 use lib.ListN.{length}
 use Rattle.terms.specs.declared.Component.{Component}
-use Rattle.terms.specs.Component.{cellSum}
+use Rattle.terms.specs.Component.{cellSum, tallest}
 use Rattle.folding.specs.declared.Placed.{Placed}
 use Rattle.folding.specs.declared.Placement.{Placement}
 use Rattle.folding.specs.Placement.{heightOf, widthOf, startOf, endOf, placedOf}
@@ -16,26 +16,21 @@ use Rattle.folding.specs.Legal.{sameGroup}
 use Rattle.folding.specs.Outline.{joined, groupsOf, topOf, takes, rowSum, groupWidth, lastGap, folded, foldGap, groupHeight, layoutWidth, layoutHeight, outlineOf}
 use Rattle.folding.proofs.Rows.{greatest-ge, takes-is, takes-of}
 
--- The tallest component of a stack.
-unfoldable pub tallest : List Component → ℕ
-tallest [] = 0
-tallest (c ∷ cs) = max (c .height .0) (tallest cs)
-
 -- The cells of placed components, and of groups of them.
-unfoldable pub cellsIn : List Placed → ℕ
+unfoldable cellsIn : List Placed → ℕ
 cellsIn [] = 0
 cellsIn (x ∷ l) = widthOf x * heightOf x + cellsIn l
 
-unfoldable pub cellsInAll : List (List Placed) → ℕ
+unfoldable cellsInAll : List (List Placed) → ℕ
 cellsInAll [] = 0
 cellsInAll (g ∷ gs) = cellsIn g + cellsInAll gs
 
 -- The sum of f 0, f 1, .., f (n - 1).
-unfoldable pub total : (ℕ → ℕ) → ℕ → ℕ
+unfoldable total : (ℕ → ℕ) → ℕ → ℕ
 total f zero = 0
 total f (suc n) = total f n + f n
 
-pub total-most : (f : ℕ → ℕ) (n c : ℕ) → ((r : ℕ) → r < n → f r ≤ c) → total f n ≤ n * c
+total-most : (f : ℕ → ℕ) (n c : ℕ) → ((r : ℕ) → r < n → f r ≤ c) → total f n ≤ n * c
 unfolding total
 total-most f zero c h = omega arith
 total-most f (suc n) c h = omega (arith, total-most f n c (λ r l. h r (omega arith)), h n (omega arith), suc-mul n c)
@@ -74,37 +69,37 @@ rows-more x g zero = refl
 rows-more x g (suc n) = omega (arith, rows-more x g n)
 
 -- Rows from the top on are empty, so that any number of rows that reaches the top will do.
-pub rows-cells : (g : List Placed) (n : ℕ) → topOf g ≤ n → total (rowSum g) n ≡ cellsIn g
+rows-cells : (g : List Placed) (n : ℕ) → topOf g ≤ n → total (rowSum g) n ≡ cellsIn g
 unfolding topOf cellsIn rowSum
 rows-cells [] n h = omega (arith, total-most (rowSum []) n 0 (λ r l. omega arith))
 rows-cells (x ∷ g) n h = omega (arith, rows-more x g n, component-cells x n (omega arith), rows-cells g n (omega arith))
 
 -- The cells of a group are its row sums together; each sum is at most the group's width.
-pub group-cells : (g : List Placed) → cellsIn g ≡ total (rowSum g) (topOf g)
+group-cells : (g : List Placed) → cellsIn g ≡ total (rowSum g) (topOf g)
 group-cells g = sym (rows-cells g (topOf g) (omega arith))
 
-pub group-cells-most : (g : List Placed) → cellsIn g ≤ topOf g * groupWidth g
+group-cells-most : (g : List Placed) → cellsIn g ≤ topOf g * groupWidth g
 group-cells-most g = omega (arith, group-cells g, total-most (rowSum g) (topOf g) (groupWidth g) (greatest-ge (rowSum g) (topOf g)))
 
 -- The highest top among groups: what each group's height, and so the layout's, reaches at least.
-unfoldable pub highest : List (List Placed) → ℕ
+unfoldable highest : List (List Placed) → ℕ
 highest [] = 0
 highest (g ∷ gs) = max (topOf g) (highest gs)
 
-pub group-top : (g0 : ℕ) (g : List Placed) → topOf g ≤ groupHeight g0 g
+group-top : (g0 : ℕ) (g : List Placed) → topOf g ≤ groupHeight g0 g
 group-top g0 g = go (folded g)
   where
     go : (b : Bool) → topOf g ≤ cond b (topOf g + max g0 (lastGap g) + foldGap g) (topOf g + g0 + lastGap g)
     go true = omega arith
     go false = omega arith
 
-pub layout-top : (g0 : ℕ) (gs : List (List Placed)) → highest gs ≤ layoutHeight g0 gs
+layout-top : (g0 : ℕ) (gs : List (List Placed)) → highest gs ≤ layoutHeight g0 gs
 unfolding highest layoutHeight
 layout-top g0 [] = omega arith
 layout-top g0 (g ∷ gs) = omega (arith, group-top g0 g, layout-top (lastGap g) gs)
 
 -- Groups side by side, each within the layout's height.
-pub layout-cells : (gs : List (List Placed)) (h : ℕ) → highest gs ≤ h → cellsInAll gs ≤ layoutWidth gs * h
+layout-cells : (gs : List (List Placed)) (h : ℕ) → highest gs ≤ h → cellsInAll gs ≤ layoutWidth gs * h
 unfolding highest layoutWidth cellsInAll
 layout-cells [] h k = omega arith
 layout-cells (g ∷ gs) h k =

@@ -72,8 +72,8 @@ module _ (kind : Kind) (cs : List Component) where
   abbrev pub UnmeetableWidth : ℕ → Type 0
   UnmeetableWidth w = (ps : List Placement) → Legal kind cs ps → keepsWidth w ps → ⊥
 
-  -- Ticket 1: "the outline whose width times height is least, the narrower of equals, with a folding that has it"; "against each
-  -- legal folding of the stack and kind, listed in the outline table or not".
+  -- Ticket 1: "the outline whose width times height is least, the narrower of equals, with a folding that has it"; "against
+  -- each legal folding of the stack and kind, listed in the outline table or not".
   pub record SmallestArea (ps : List Placement) (o : Outline) : Type 0 where
     pub is-legal : Legal kind cs ps
     pub has : outlineOf cs ps ≡ o

@@ -1,5 +1,5 @@
--- What "best", "unmeetable", "smallest" and "unbeaten" rule out: a legal folding of w slices and h rows is a rival that no claim
--- outlives.
+-- What "best", "unmeetable", "smallest" and "unbeaten" rule out: a legal folding of w slices and h rows is a rival that no
+-- claim outlives.
 use Prim.Native.Nat.{ℕ, _*_, _≤_, _<_}
 use mathlib.Core.Path.{_≡_, refl, ap, subst}
 use mathlib.Core.Logic.{_⊎_, inl, inr}

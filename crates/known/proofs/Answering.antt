@@ -20,7 +20,7 @@ use Rattle.fold_area.proofs.OneAnswer.{one-of-area}
 use Rattle.fold.proofs.OneAnswer.{one-for-height, one-for-width, met-height, met-width, the-best, there-is-none, best-left, none-left, refused-call, valid-file, measures}
 use Rattle.fold_table.specs.Calls.{tableValidOf}
 use Rattle.fold_table.proofs.Tables as tables
-use Rattle.known.specs.Known.{Line, to-height, to-width, smallest-area, table, header, size, lent as lent-line, area-lent, table-work, table-room, Holds, Answers, FoldsRefuse, AreaRefuses, TableRefuses, Refuses}
+use Rattle.known.specs.Known.{Line, to-height, to-width, smallest-area, table, header, size, lent as lent-line, area-room, table-work, table-room, Holds, Answers, FoldsRefuse, AreaRefuses, TableRefuses, Refuses}
 
 folds-refuse : (kind : Kind) (file : List ℕ) (limit : ℕ) (out work : List ℕ) (k : ℕ) → validOf kind file limit out work ≡ refusal k → FoldsRefuse kind file limit out work k
 folds-refuse kind file limit out work k e = λ out′ work′ answer.
@@ -84,8 +84,8 @@ answers (lent-line limit o w (result m)) h = λ kind file out work cs e n a b.
     rw (e, n, a, b) (sym (all-well limit o w 1 cs (l .low) (l .high) (l .room) (l .work-room)))
 -- With a limit of 1 a fold call checks what is lent alone, as the smallest area does; with room for one placement the work
 -- buffer alone, as the table does.
-answers (area-lent o w (refusal k)) h = λ kind file out work cs e n a b. area-refuses kind file out work k (rw (e, n, a, b) (refused-alike 1 o w 1 1 cs k h))
-answers (area-lent o w (result m)) h = λ kind file out work cs e n a b.
+answers (area-room o w (refusal k)) h = λ kind file out work cs e n a b. area-refuses kind file out work k (rw (e, n, a, b) (refused-alike 1 o w 1 1 cs k h))
+answers (area-room o w (result m)) h = λ kind file out work cs e n a b.
     let l : Lent 1 o w 1 = lent 1 o w 1 1 m h in
     rw (e, n, a, b) (sym (all-well 1 o w 1 cs (l .low) (l .high) (l .room) (l .work-room)))
 answers (table-work w (refusal k)) h = λ kind file out work cs e b. table-refuses kind file out work k (rw (e, b) (refused-alike 1 3 w 1 1 cs k h))

@@ -1,5 +1,5 @@
--- The known stacks (document 01, "Known stacks"): one list of lines, each a claim about all legal foldings of its stack and
--- kind or about a refusal, and about what the calls answer.
+-- The known stacks (document 01, "Known stacks"; ticket 1): one list of lines, each a claim about all legal foldings of its
+-- stack and kind or about a refusal, and about what the calls answer.
 use Prim.Native.Nat.{ℕ, zero, suc, _*_, _≤_}
 use mathlib.Core.Path.{_≡_}
 use mathlib.Core.List.{List, [], _∷_}
@@ -15,13 +15,13 @@ use Rattle.folding.specs.declared.Placement.{Placement}
 use Rattle.folding.specs.declared.Outline.{Outline}
 use Rattle.folding.specs.Calls.{measureOf, chooseOf}
 use Rattle.folding.specs.Best.{BestForHeight, BestForWidth, UnmeetableHeight, UnmeetableWidth, SmallestArea, Listing}
-use Rattle.fold.specs.Calls.{workCheck, lentChecks, foldChecks, validOf, ToHeight, ToWidth}
+use Rattle.fold.specs.Calls.{workCheck, roomChecks, foldChecks, validOf, ToHeight, ToWidth}
 use Rattle.fold_area.specs.Calls.{areaValidOf, SmallestOf}
 use Rattle.fold_table.specs.Calls.{tableValidOf, tableAnswer, tableInto, TableOf}
 
 -- `header`: the refusal of a file by its first seven bytes and its length. `size`: those of a list of components. `lent`: those
--- of a fold call's limit, placement buffer and work buffer, for one component; `area-lent`: those of the smallest area, which has
--- no limit. `table-work`: that of the table's work buffer. `table-room`: that of its pairs, for a table of these outlines.
+-- of a fold call's limit, placement buffer and work buffer, for one component; `area-room`: those of the smallest area, which
+-- has no limit. `table-work`: that of the table's work buffer. `table-room`: that of its pairs, for a table of these outlines.
 pub data Line : Type 0 where
   to-height : Kind → List Component → ℕ → Answer Outline → Line
   to-width : Kind → List Component → ℕ → Answer Outline → Line
@@ -30,7 +30,7 @@ pub data Line : Type 0 where
   header : List ℕ → ℕ → Line
   size : Kind → List Component → Answer ℕ → Line
   lent : ℕ → ℕ → ℕ → Answer ℕ → Line
-  area-lent : ℕ → ℕ → Answer ℕ → Line
+  area-room : ℕ → ℕ → Answer ℕ → Line
   table-work : ℕ → Answer ℕ → Line
   table-room : ℕ → List Outline → Answer ℕ → Line
 
@@ -45,7 +45,7 @@ Holds (table kind cs os) = Listing kind cs os
 Holds (header file k) = headerOf file ≡ refusal k
 Holds (size kind cs a) = countOf (stackOf (mostOf kind) cs) ≡ a
 Holds (lent limit out work a) = foldChecks limit out work 1 1 ≡ a
-Holds (area-lent out work a) = lentChecks out work 1 1 ≡ a
+Holds (area-room out work a) = roomChecks out work 1 1 ≡ a
 Holds (table-work n a) = workCheck n 1 ≡ a
 Holds (table-room n os a) = tableAnswer n os ≡ a
 
@@ -109,10 +109,10 @@ Answers (lent limit o w (refusal k)) = (kind : Kind) (file out work : List ℕ) 
 Answers (lent limit o w (result n)) = (kind : Kind) (file out work : List ℕ) (cs : List Component)
     → checkOf kind file ≡ result cs → length cs ≡ 1 → length out ≡ o → length work ≡ w
     → validOf kind file limit out work ≡ result cs
-Answers (area-lent o w (refusal k)) = (kind : Kind) (file out work : List ℕ) (cs : List Component)
+Answers (area-room o w (refusal k)) = (kind : Kind) (file out work : List ℕ) (cs : List Component)
     → checkOf kind file ≡ result cs → length cs ≡ 1 → length out ≡ o → length work ≡ w
     → AreaRefuses kind file out work k
-Answers (area-lent o w (result n)) = (kind : Kind) (file out work : List ℕ) (cs : List Component)
+Answers (area-room o w (result n)) = (kind : Kind) (file out work : List ℕ) (cs : List Component)
     → checkOf kind file ≡ result cs → length cs ≡ 1 → length out ≡ o → length work ≡ w
     → areaValidOf kind file out work ≡ result cs
 Answers (table-work w (refusal k)) = (kind : Kind) (file out work : List ℕ) (cs : List Component)
@@ -176,8 +176,12 @@ lines =
     ∷ table Apart E (o 3 4 ∷ o 6 2 ∷ o 8 1 ∷ [])
     ∷ table Nested E (o 3 3 ∷ o 6 2 ∷ o 8 1 ∷ [])
     ∷ to-height Nested F 2 (result (o 10 2))
+    ∷ smallest-area Apart A (o 2 3)
+    ∷ smallest-area Nested A (o 2 3)
     ∷ smallest-area Apart B (o 1 10)
     ∷ smallest-area Nested B (o 1 10)
+    ∷ smallest-area Apart C (o 1 2)
+    ∷ smallest-area Nested C (o 1 2)
     ∷ smallest-area Apart D (o 29 5)
     ∷ smallest-area Nested D (o 10 14)
     ∷ smallest-area Apart E (o 8 1)
@@ -210,9 +214,9 @@ lines =
     ∷ lent 0 2 8191 (refusal 7)
     ∷ lent 1 2 8192 (refusal 8)
     ∷ lent 1 3 8191 (refusal 8)
-    ∷ area-lent 3 8192 (result 1)
-    ∷ area-lent 2 8192 (refusal 8)
-    ∷ area-lent 3 8191 (refusal 8)
+    ∷ area-room 3 8192 (result 1)
+    ∷ area-room 2 8192 (refusal 8)
+    ∷ area-room 3 8191 (refusal 8)
     ∷ table-work 8192 (result 1)
     ∷ table-work 8191 (refusal 8)
     ∷ table-room 6 (o 3 4 ∷ o 6 2 ∷ o 8 1 ∷ []) (result 3)

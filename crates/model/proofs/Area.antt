@@ -15,15 +15,15 @@ use Rattle.model.specs.Groups.{none}
 use Rattle.model.specs.Layout.{Layout, NoWorse}
 use Rattle.model.specs.Outlines.{outline, outlineBy}
 use Rattle.model.specs.Search.{Search}
-use Rattle.model.specs.Area.{larger, smallerOf, nextLimit}
+use Rattle.model.specs.Area.{larger, smallerOf, nextLimit, Leads}
 use Rattle.model.proofs.Choice.{no-wider}
 use Rattle.model.proofs.Best.{layout-high, own-height}
 use Rattle.model.proofs.Table.{Unbeaten, layout-unbeaten}
 
-same-outline : {o p : Outline} → o .width .0 ≡ p .width .0 → o .height .0 ≡ p .height .0 → o ≡ p
+pub same-outline : {o p : Outline} → o .width .0 ≡ p .width .0 → o .height .0 ≡ p .height .0 → o ≡ p
 same-outline {o} {p} w h = let e : outline (o .width .0) (o .height .0) ≡ outline (p .width .0) (p .height .0) = rw (w, h) in e
 
-pub larger-of : (o x : Outline) → areaOf o ≤ areaOf x → o .width .0 ≤ x .width .0 → Larger o x
+larger-of : (o x : Outline) → areaOf o ≤ areaOf x → o .width .0 ≤ x .width .0 → Larger o x
 larger-of o x a w = go (order (areaOf x) (areaOf o))
   where
     go : (areaOf x ≤ areaOf o) ⊎ (areaOf o < areaOf x) → Larger o x
@@ -50,7 +50,7 @@ one-smallest o p some (inr h) (inr k) =
     let down : o .width .0 * o .height .0 ≤ o .width .0 * p .height .0 = omega arith in
     same-outline (sym w) (omega (arith, le-of-mul-le-mul-left up some, le-of-mul-le-mul-left down some))
 
-pub larger-trans : (o p q : Outline) → Larger o p → Larger p q → Larger o q
+larger-trans : (o p q : Outline) → Larger o p → Larger p q → Larger o q
 larger-trans o p q (inl h) k = inl (omega (arith, no-larger p q k))
 larger-trans o p q (inr h) (inl k) = inl (omega (arith, h .0))
 larger-trans o p q (inr h) (inr k) = inr (omega (arith, h .0, k .0), omega (arith, h .1, k .1))
@@ -98,7 +98,7 @@ smaller-second a b = go (larger a b) refl
     go false e = inr (refl, omega arith)
 
 -- What is at least so wide and above the next limit is larger.
-pub skipped : (o x : Outline) (least cells : ℕ) → 0 < least → least ≤ x .width .0 → cells ≤ areaOf x → nextLimit o least cells < x .height .0 → Larger o x
+skipped : (o x : Outline) (least cells : ℕ) → 0 < least → least ≤ x .width .0 → cells ≤ areaOf x → nextLimit o least cells < x .height .0 → Larger o x
 skipped o x least cells p v c = go (leb (o .width .0) least) refl (leb (areaOf o) cells) refl
   where
     above : (a : ℕ) → a / least < x .height .0 → a < areaOf x
@@ -135,12 +135,6 @@ limit-most o w h cells a = go (leb (o .width .0) w) (leb (areaOf o) cells)
     go true true = omega arith
     go true false = below (areaOf o - 1) (omega arith)
     go false u = below (areaOf o) (omega arith)
-
--- No folding above the limit is smaller than o. The height of o is limit enough for its width.
-pub record Leads {F : Type 0} (Legal : F → Type 0) (outlineOf : F → Outline) (best : ℕ → Layout) (o : Outline) (limit : ℕ) : Type 0 where
-  pub wide : 0 < o .width .0
-  pub above : (f : F) → Legal f → limit < outlineOf f .height .0 → Larger o (outlineOf f)
-  pub reached : best (o .height .0) .width ≤ o .width .0
 
 module _ {F : Type 0} {Legal : F → Type 0} {outlineOf : F → Outline} {best : ℕ → Layout} (s : Search Legal outlineOf best) where
   module _ (cells : ℕ) (most : (f : F) → Legal f → cells ≤ areaOf (outlineOf f)) where

@@ -1,5 +1,5 @@
 -- What a search for the best folding within a height must show, whatever a folding is. Best for a height, best for a width,
--- unmeetable and the outline table follow from it.
+-- unmeetable, the smallest area and the outline table follow from it.
 use Prim.Native.Nat.{ℕ, _≤_, _<_}
 use mathlib.Core.Path.{_≡_}
 use Rattle.terms.specs.Numbers.{mostLimit}

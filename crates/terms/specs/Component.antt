@@ -1,5 +1,5 @@
 -- Components, and which lists of them are a stack (document 01, "Components and stack files").
-use Prim.Native.Nat.{ℕ, zero, suc, _+_, _*_}
+use Prim.Native.Nat.{ℕ, zero, suc, _+_, _*_, max}
 use mathlib.Core.List.{List, [], _∷_, _++_}
 use mathlib.Core.Bool.{Bool, true, false, not, _&&_}
 use lib.ListN.{length, getD}
@@ -75,7 +75,12 @@ unfoldable pub widthSum : List Component → ℕ
 widthSum [] = 0
 widthSum (c ∷ cs) = c .width .0 + widthSum cs
 
--- The cells of all components together: "the sum of each component's width times its height".
+-- The cells of all components together: "the sum of each component's width times its height" (ticket 6).
 unfoldable pub cellSum : List Component → ℕ
 cellSum [] = 0
 cellSum (c ∷ cs) = c .width .0 * c .height .0 + cellSum cs
+
+-- The tallest component's height.
+unfoldable pub tallest : List Component → ℕ
+tallest [] = 0
+tallest (c ∷ cs) = max (c .height .0) (tallest cs)

@@ -1,5 +1,5 @@
-//! Foldings of a bit-sliced stack: reads and writes stack files, measures foldings, finds the best ones for a height or a
-//! width and those of the smallest area, and lists the unbeaten outlines. Rows and slices are types of their own, so a
+//! Foldings of a bit-sliced stack: reads and writes stack files, measures foldings, finds the best one for a height or a
+//! width and the one of smallest area, and lists the unbeaten outlines. Rows and slices are types of their own, so a
 //! height cannot be passed as a width.
 //!
 //! ```
