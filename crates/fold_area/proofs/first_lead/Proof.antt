@@ -11,11 +11,6 @@ use Rattle.fold.proofs.Held.{stacked}
 use native.Mathlib.Omega.{arith}
 use Rattle.fold_area.proofs.first_lead.Statement.{statement}
 use Rattle.fold_area.proofs.first_lead.Tie as tie
-use Rattle.fold_area.proofs.first_lead.Reads as reads
-use Rattle.fold_area.proofs.first_lead.Lts as lts
-use Rattle.fold_area.proofs.smaller.Reads as smaller-reads
-use Rattle.numbers.proofs.larger.Reads as larger-reads
-use Rattle.plan.proofs.replan.Reads as replan-reads
 
 abbrev Inv-loop : tie.InvT-loop
 Inv-loop kind tallest h w g widths₀ heights₀ ends₀ work₀ lead₀ known₀ limit₀ widths heights ends work lead known limit =
@@ -25,55 +20,42 @@ Inv-loop kind tallest h w g widths₀ heights₀ ends₀ work₀ lead₀ known�
 abbrev μ-loop : tie.MeasureT-loop
 μ-loop kind tallest h w g widths₀ heights₀ ends₀ work₀ lead₀ known₀ limit₀ widths heights ends work lead known limit = limit
 
--- src/lib.rt:100:5
 loop-holds : tie.Need-loop-holds Inv-loop μ-loop
 loop-holds c = (c .before .before .before .before .before .before .before .before .pre .1, λ h. absurd (omega arith), refl, refl, refl, refl, omega (arith, c .before .before .before .before .before .before .before .before .pre .1 .low))
 
--- src/lib.rt:101:9
 larger-requires : tie.Need-larger-requires Inv-loop μ-loop
 larger-requires c κs = search needs
 
--- src/lib.rt:102:13
 replan-requires : tie.Need-replan-requires Inv-loop μ-loop
 replan-requires c κs = (asks-again (c .before .before .before .before .before .before .before .before .before .before .before .before .before .before .before .before .pre .0) (omega (arith, c .before .before .before .before .larger .ensures, c .before .before .before .before .before .if1 .taken, c .before .before .before .before .before .before .before .loop .inv .6)) (c .before .before .before .before .before .before .before .loop .inv .2) (c .before .before .before .before .before .before .before .loop .inv .3) (c .before .before .before .before .before .before .before .loop .inv .4) (omega (arith, c .before .before .before .before .before .before .before .loop .inv .5, c .before .before .before .before .before .before .before .before .before .before .before .before .before .before .before .before .pre .0 .room)), λ h. c .before .before .before .before .before .before .before .loop .inv .1 (omega arith))
 
--- src/lib.rt:116:13
 smaller-requires : tie.Need-smaller-requires Inv-loop μ-loop
 smaller-requires c κs = search needs
 
--- src/lib.rt:100:5
 loop-less : tie.Need-loop-less Inv-loop μ-loop
 loop-less c = omega (arith, c .before .before .before .before .before .before .before .before .before .before .before .before .before .before .before .before .larger .ensures, c .before .before .before .before .before .before .before .before .before .before .before .before .before .before .before .before .before .if1 .taken)
 
--- src/lib.rt:100:5
 loop-again : tie.Need-loop-again Inv-loop μ-loop
 loop-again c = (rw (c .smaller .ensures) (smaller-leads _ _ (stacked _ _ _ _ (c .before .before .before .before .before .before .before .before .before .before .before .before .before .before .before .before .before .before .before .before .before .before .before .before .before .before .before .before .pre .0 .lists) (c .before .before .before .before .before .before .before .before .before .before .before .before .before .before .before .before .before .before .before .before .before .before .before .before .before .before .before .before .pre .0 .some)) _ (c .before .before .before .before .before .before .before .before .before .before .before .before .before .before .before .before .before .before .before .loop .inv .0) _ (omega (arith, c .before .before .before .before .before .before .before .before .before .before .before .before .before .before .before .before .larger .ensures, c .before .before .before .before .before .before .before .before .before .before .before .before .before .before .before .before .before .if1 .taken, c .before .before .before .before .before .before .before .before .before .before .before .before .before .before .before .before .before .before .before .loop .inv .6)) _ (c .before .before .before .before .before .before .before .before .before .before .before .replan .ensures .0 .outlined) (c .before .if2 .taken)), λ h. (c .before .before .before .before .before .before .before .before .before .before .before .replan .ensures .0 .planned, c .before .before .before .before .before .before .before .before .before .before .before .replan .ensures .1), c .before .before .before .before .before .before .before .before .before .before .before .replan .kept .1 .1 .1 .1 .1 .1 .0 ∙ c .before .before .before .before .before .before .before .before .before .before .before .before .before .before .before .before .before .before .before .loop .inv .2, c .before .before .before .before .before .before .before .before .before .before .before .replan .kept .1 .1 .1 .1 .1 .1 .1 .0 ∙ c .before .before .before .before .before .before .before .before .before .before .before .before .before .before .before .before .before .before .before .loop .inv .3, c .before .before .before .before .before .before .before .before .before .before .before .replan .kept .1 .1 .1 .1 .1 .1 .1 .1 .0 ∙ c .before .before .before .before .before .before .before .before .before .before .before .before .before .before .before .before .before .before .before .loop .inv .4, c .before .before .before .before .before .before .before .before .before .before .before .replan .kept .1 .1 .1 .1 .1 .1 .1 .1 .1 .0 ∙ c .before .before .before .before .before .before .before .before .before .before .before .before .before .before .before .before .before .before .before .loop .inv .5, omega (arith, c .before .before .before .before .before .before .before .before .before .before .before .before .before .before .before .before .larger .ensures, c .before .before .before .before .before .before .before .before .before .before .before .before .before .before .before .before .before .if1 .taken, c .before .before .before .before .before .before .before .before .before .before .before .before .before .before .before .before .before .before .before .loop .inv .6))
 
--- src/lib.rt:100:5
 loop-less-2 : tie.Need-loop-less-2 Inv-loop μ-loop
 loop-less-2 c = omega (arith, c .before .before .before .before .before .before .before .before .before .before .before .before .before .before .before .larger .ensures, c .before .before .before .before .before .before .before .before .before .before .before .before .before .before .before .before .if1 .taken)
 
--- src/lib.rt:100:5
 loop-again-2 : tie.Need-loop-again-2 Inv-loop μ-loop
 loop-again-2 c = (c .before .before .before .before .before .before .before .before .before .before .before .before .before .before .before .before .before .before .loop .inv .0, λ h. (c .before .before .before .before .before .before .before .before .before .before .replan .ensures .0 .planned, c .before .before .before .before .before .before .before .before .before .before .replan .ensures .1), c .before .before .before .before .before .before .before .before .before .before .replan .kept .1 .1 .1 .1 .1 .1 .0 ∙ c .before .before .before .before .before .before .before .before .before .before .before .before .before .before .before .before .before .before .loop .inv .2, c .before .before .before .before .before .before .before .before .before .before .replan .kept .1 .1 .1 .1 .1 .1 .1 .0 ∙ c .before .before .before .before .before .before .before .before .before .before .before .before .before .before .before .before .before .before .loop .inv .3, c .before .before .before .before .before .before .before .before .before .before .replan .kept .1 .1 .1 .1 .1 .1 .1 .1 .0 ∙ c .before .before .before .before .before .before .before .before .before .before .before .before .before .before .before .before .before .before .loop .inv .4, c .before .before .before .before .before .before .before .before .before .before .replan .kept .1 .1 .1 .1 .1 .1 .1 .1 .1 .0 ∙ c .before .before .before .before .before .before .before .before .before .before .before .before .before .before .before .before .before .before .loop .inv .5, omega (arith, c .before .before .before .before .before .before .before .before .before .before .before .before .before .before .before .larger .ensures, c .before .before .before .before .before .before .before .before .before .before .before .before .before .before .before .before .if1 .taken, c .before .before .before .before .before .before .before .before .before .before .before .before .before .before .before .before .before .before .loop .inv .6))
 
--- src/lib.rt:80:1
 same-length : tie.Need-same-length Inv-loop μ-loop
 same-length c = c .before .before .loop .inv .2
 
--- src/lib.rt:80:1
 same-length-2 : tie.Need-same-length-2 Inv-loop μ-loop
 same-length-2 c = c .before .before .loop .inv .3
 
--- src/lib.rt:80:1
 same-length-3 : tie.Need-same-length-3 Inv-loop μ-loop
 same-length-3 c = c .before .before .loop .inv .4
 
--- src/lib.rt:80:1
 same-length-4 : tie.Need-same-length-4 Inv-loop μ-loop
 same-length-4 c = c .before .before .loop .inv .5
 
--- src/lib.rt:80:1
 returns : tie.Need-returns Inv-loop μ-loop
 returns c = c .before .before .loop .inv .0
 

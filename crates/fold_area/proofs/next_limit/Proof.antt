@@ -4,52 +4,37 @@ use native.Mathlib.Omega.{arith}
 use borrow.Author.Needs.{needs}
 use Rattle.fold_area.proofs.next_limit.Statement.{statement}
 use Rattle.fold_area.proofs.next_limit.Tie as tie
-use Rattle.fold_area.proofs.next_limit.Reads as reads
-use Rattle.fold_area.proofs.next_limit.Lts as lts
-use Rattle.best.proofs.long.Reads as long-reads
-use Rattle.fold_area.proofs.area.Reads as area-reads
 
--- src/lib.rt:66:9
 area-requires : tie.Need-area-requires
 area-requires c κs = search needs
 
--- src/lib.rt:68:27
 long-requires : tie.Need-long-requires
 long-requires c κs = search needs
 
--- src/lib.rt:68:20
 div-rows : tie.Need-div-rows
 div-rows c = search needs
 
--- src/lib.rt:69:21
 cast-t9 : tie.Need-cast-t9
 cast-t9 c = omega (arith, limit-fits (c .before .before .before .before .before .args .o) (c .before .before .before .before .before .args .least .0) (c .before .before .before .before .before .args .cells) _ _ (c .before .before .before .before .area .ensures) (c .long .ensures .0) (c .before .before .before .before .area .result) (omega arith) (c .before .before .before .before .before .pre .1))
 
--- src/lib.rt:69:9
 returns : tie.Need-returns
 returns c = let a = c .before .before .before .before .before .args in wider-limit (a .o) (a .least .0) (a .cells) _ _ (c .before .before .before .before .area .ensures) (c .long .ensures .0) (c .before .if1 .taken)
 
--- src/lib.rt:72:9
 returns-2 : tie.Need-returns-2
 returns-2 c = let a = c .before .before .before .before .before .args in no-limit (a .o) (a .least .0) (a .cells) (c .before .if1 .left) (omega (arith, c .before .before .before .before .area .ensures, c .if2 .taken))
 
--- src/lib.rt:74:17
 sub-rows : tie.Need-sub-rows
 sub-rows c = search needs
 
--- src/lib.rt:74:29
 long-requires-2 : tie.Need-long-requires-2
 long-requires-2 c κs = search needs
 
--- src/lib.rt:74:16
 div-rows-2 : tie.Need-div-rows-2
 div-rows-2 c = search needs
 
--- src/lib.rt:75:10
 cast-t12 : tie.Need-cast-t12
 cast-t12 c = omega (arith, limit-fits (c .before .before .before .before .before .before .args .o) (c .before .before .before .before .before .before .args .least .0) (c .before .before .before .before .before .before .args .cells) _ _ (c .before .before .before .before .before .area .ensures) (c .long2 .ensures .0) (c .before .before .before .before .before .area .result - 1) (omega arith) (c .before .before .before .before .before .before .pre .1))
 
--- src/lib.rt:62:1
 returns-3 : tie.Need-returns-3
 returns-3 c = let a = c .before .before .before .before .before .before .args in some-limit (a .o) (a .least .0) (a .cells) _ _ (c .before .before .before .before .before .area .ensures) (c .long2 .ensures .0) (c .before .before .if1 .left) (omega (arith, c .before .if2 .left))
 

@@ -1,6 +1,5 @@
 use Rattle.fold_area.proofs.Passing.{first-asks, starts, ends-low, ends-unmet, fits, limit-less, goes-on}
 use Rattle.fold_area.specs.Inner.{Passing}
-use Prim.Native.Nat.{_≤_}
 use lib.ListN.{length}
 use mathlib.Core.Path.{_≡_, refl, _∙_}
 use borrow.Author.Needs.{needs}
@@ -11,11 +10,6 @@ use Rattle.fold.proofs.Held.{stacked}
 use native.Mathlib.Omega.{arith}
 use Rattle.fold_area.proofs.pass.Statement.{statement}
 use Rattle.fold_area.proofs.pass.Tie as tie
-use Rattle.fold_area.proofs.pass.Reads as reads
-use Rattle.fold_area.proofs.pass.Lts as lts
-use Rattle.fold_area.proofs.next_limit.Reads as next-limit-reads
-use Rattle.fold_area.proofs.smaller.Reads as smaller-reads
-use Rattle.plan.proofs.replan.Reads as replan-reads
 
 abbrev Inv-loop : tie.InvT-loop
 Inv-loop kind tallest cells h w g widths₀ heights₀ ends₀ work₀ lead₀ known₀ limit₀ widths heights ends work lead known limit =
@@ -25,75 +19,57 @@ Inv-loop kind tallest cells h w g widths₀ heights₀ ends₀ work₀ lead₀ k
 abbrev μ-loop : tie.MeasureT-loop
 μ-loop kind tallest cells h w g widths₀ heights₀ ends₀ work₀ lead₀ known₀ limit₀ widths heights ends work lead known limit = limit .0
 
--- src/lib.rt:147:9
 next-limit-requires : tie.Need-next-limit-requires Inv-loop μ-loop
 next-limit-requires c κs = first-asks (c .before .before .before .before .before .before .before .args .kind) _ (stacked _ _ _ _ (c .before .before .before .before .before .before .before .pre .0 .lists) (c .before .before .before .before .before .before .before .pre .0 .some)) (c .before .before .before .before .before .before .before .pre .1 .1) _ (c .before .before .before .before .before .before .before .pre .1 .0)
 
--- src/lib.rt:148:5
 loop-holds : tie.Need-loop-holds Inv-loop μ-loop
 loop-holds c = (rw (c .next-limit .ensures) (starts _ _ (stacked _ _ _ _ (c .before .before .before .before .before .before .before .before .pre .0 .lists) (c .before .before .before .before .before .before .before .before .pre .0 .some)) (c .before .before .before .before .before .before .before .before .pre .1 .1) _ (c .before .before .before .before .before .before .before .before .pre .1 .0)), λ h. absurd (omega arith), refl, refl, refl, refl)
 
--- src/lib.rt:149:13
 replan-requires : tie.Need-replan-requires Inv-loop μ-loop
 replan-requires c κs = (asks-again (c .before .before .before .before .before .before .before .before .before .before .before .before .before .before .before .before .pre .0) (omega (arith, c .before .before .before .before .before .before .before .loop .inv .0 .most)) (c .before .before .before .before .before .before .before .loop .inv .2) (c .before .before .before .before .before .before .before .loop .inv .3) (c .before .before .before .before .before .before .before .loop .inv .4) (omega (arith, c .before .before .before .before .before .before .before .loop .inv .5, c .before .before .before .before .before .before .before .before .before .before .before .before .before .before .before .before .pre .0 .room)), λ h. c .before .before .before .before .before .before .before .loop .inv .1 (omega arith))
 
--- src/lib.rt:152:13
 same-length : tie.Need-same-length Inv-loop μ-loop
 same-length c = c .before .before .before .before .before .before .before .before .before .before .replan .kept .1 .1 .1 .1 .1 .1 .0 ∙ c .before .before .before .before .before .before .before .before .before .before .before .before .before .before .before .before .before .before .loop .inv .2
 
--- src/lib.rt:152:13
 same-length-2 : tie.Need-same-length-2 Inv-loop μ-loop
 same-length-2 c = c .before .before .before .before .before .before .before .before .before .before .replan .kept .1 .1 .1 .1 .1 .1 .1 .0 ∙ c .before .before .before .before .before .before .before .before .before .before .before .before .before .before .before .before .before .before .loop .inv .3
 
--- src/lib.rt:152:13
 same-length-3 : tie.Need-same-length-3 Inv-loop μ-loop
 same-length-3 c = c .before .before .before .before .before .before .before .before .before .before .replan .kept .1 .1 .1 .1 .1 .1 .1 .1 .0 ∙ c .before .before .before .before .before .before .before .before .before .before .before .before .before .before .before .before .before .before .loop .inv .4
 
--- src/lib.rt:152:13
 same-length-4 : tie.Need-same-length-4 Inv-loop μ-loop
 same-length-4 c = c .before .before .before .before .before .before .before .before .before .before .replan .kept .1 .1 .1 .1 .1 .1 .1 .1 .1 .0 ∙ c .before .before .before .before .before .before .before .before .before .before .before .before .before .before .before .before .before .before .loop .inv .5
 
--- src/lib.rt:152:13
 returns : tie.Need-returns Inv-loop μ-loop
 returns c = record { smallest-for = ends-unmet _ _ (stacked _ _ _ _ (c .before .before .before .before .before .before .before .before .before .before .before .before .before .before .before .before .before .before .before .before .before .before .before .before .before .before .before .pre .0 .lists) (c .before .before .before .before .before .before .before .before .before .before .before .before .before .before .before .before .before .before .before .before .before .before .before .before .before .before .before .pre .0 .some)) (c .before .before .before .before .before .before .before .before .before .before .before .before .before .before .before .before .before .before .before .before .before .before .before .before .before .before .before .pre .1 .1) _ _ (c .before .before .before .before .before .before .before .before .before .before .before .before .before .before .before .before .before .before .loop .inv .0) _ (c .before .before .before .before .before .before .before .before .before .before .replan .ensures .0 .outlined) (c .if2 .taken); held = λ h. (c .before .before .before .before .before .before .before .before .before .before .replan .ensures .0 .planned, c .before .before .before .before .before .before .before .before .before .before .replan .ensures .1) }
 
--- src/lib.rt:157:9
 smaller-requires : tie.Need-smaller-requires Inv-loop μ-loop
 smaller-requires c κs = search needs
 
--- src/lib.rt:158:41
 add-t27 : tie.Need-add-t27 Inv-loop μ-loop
 add-t27 c = omega (arith, c .before .before .if2 .left)
 
--- src/lib.rt:158:9
 next-limit-requires-2 : tie.Need-next-limit-requires-2 Inv-loop μ-loop
 next-limit-requires-2 c κs = (omega arith, rw (c .before .smaller .ensures) (fits _ _ (stacked _ _ _ _ (c .before .before .before .before .before .before .before .before .before .before .before .before .before .before .before .before .before .before .before .before .before .before .before .before .before .before .before .before .before .pre .0 .lists) (c .before .before .before .before .before .before .before .before .before .before .before .before .before .before .before .before .before .before .before .before .before .before .before .before .before .before .before .before .before .pre .0 .some)) (c .before .before .before .before .before .before .before .before .before .before .before .before .before .before .before .before .before .before .before .before .before .before .before .before .before .before .before .before .before .pre .1 .1) _ _ (c .before .before .before .before .before .before .before .before .before .before .before .before .before .before .before .before .before .before .before .before .loop .inv .0) _ (c .before .before .before .before .before .before .before .before .before .before .before .before .replan .ensures .0 .outlined) (c .before .before .if2 .left)))
 
--- src/lib.rt:148:5
 loop-less : tie.Need-loop-less Inv-loop μ-loop
 loop-less c = rw (c .next-limit2 .ensures, c .before .before .smaller .ensures) (limit-less _ _ (stacked _ _ _ _ (c .before .before .before .before .before .before .before .before .before .before .before .before .before .before .before .before .before .before .before .before .before .before .before .before .before .before .before .before .before .before .pre .0 .lists) (c .before .before .before .before .before .before .before .before .before .before .before .before .before .before .before .before .before .before .before .before .before .before .before .before .before .before .before .before .before .before .pre .0 .some)) (c .before .before .before .before .before .before .before .before .before .before .before .before .before .before .before .before .before .before .before .before .before .before .before .before .before .before .before .before .before .before .pre .1 .1) _ _ (c .before .before .before .before .before .before .before .before .before .before .before .before .before .before .before .before .before .before .before .before .before .loop .inv .0) _ (c .before .before .before .before .before .before .before .before .before .before .before .before .before .replan .ensures .0 .outlined) (c .before .before .before .if2 .left))
 
--- src/lib.rt:148:5
 loop-again : tie.Need-loop-again Inv-loop μ-loop
 loop-again c = (rw (c .next-limit2 .ensures, c .before .before .smaller .ensures) (goes-on _ _ (stacked _ _ _ _ (c .before .before .before .before .before .before .before .before .before .before .before .before .before .before .before .before .before .before .before .before .before .before .before .before .before .before .before .before .before .before .pre .0 .lists) (c .before .before .before .before .before .before .before .before .before .before .before .before .before .before .before .before .before .before .before .before .before .before .before .before .before .before .before .before .before .before .pre .0 .some)) (c .before .before .before .before .before .before .before .before .before .before .before .before .before .before .before .before .before .before .before .before .before .before .before .before .before .before .before .before .before .before .pre .1 .1) _ _ (c .before .before .before .before .before .before .before .before .before .before .before .before .before .before .before .before .before .before .before .before .before .loop .inv .0) _ (c .before .before .before .before .before .before .before .before .before .before .before .before .before .replan .ensures .0 .outlined) (c .before .before .before .if2 .left)), λ h. (c .before .before .before .before .before .before .before .before .before .before .before .before .before .replan .ensures .0 .planned, c .before .before .before .before .before .before .before .before .before .before .before .before .before .replan .ensures .1), c .before .before .before .before .before .before .before .before .before .before .before .before .before .replan .kept .1 .1 .1 .1 .1 .1 .0 ∙ c .before .before .before .before .before .before .before .before .before .before .before .before .before .before .before .before .before .before .before .before .before .loop .inv .2, c .before .before .before .before .before .before .before .before .before .before .before .before .before .replan .kept .1 .1 .1 .1 .1 .1 .1 .0 ∙ c .before .before .before .before .before .before .before .before .before .before .before .before .before .before .before .before .before .before .before .before .before .loop .inv .3, c .before .before .before .before .before .before .before .before .before .before .before .before .before .replan .kept .1 .1 .1 .1 .1 .1 .1 .1 .0 ∙ c .before .before .before .before .before .before .before .before .before .before .before .before .before .before .before .before .before .before .before .before .before .loop .inv .4, c .before .before .before .before .before .before .before .before .before .before .before .before .before .replan .kept .1 .1 .1 .1 .1 .1 .1 .1 .1 .0 ∙ c .before .before .before .before .before .before .before .before .before .before .before .before .before .before .before .before .before .before .before .before .before .loop .inv .5)
 
--- src/lib.rt:124:1
 same-length-5 : tie.Need-same-length-5 Inv-loop μ-loop
 same-length-5 c = c .before .before .before .loop .inv .2
 
--- src/lib.rt:124:1
 same-length-6 : tie.Need-same-length-6 Inv-loop μ-loop
 same-length-6 c = c .before .before .before .loop .inv .3
 
--- src/lib.rt:124:1
 same-length-7 : tie.Need-same-length-7 Inv-loop μ-loop
 same-length-7 c = c .before .before .before .loop .inv .4
 
--- src/lib.rt:124:1
 same-length-8 : tie.Need-same-length-8 Inv-loop μ-loop
 same-length-8 c = c .before .before .before .loop .inv .5
 
--- src/lib.rt:124:1
 returns-2 : tie.Need-returns-2 Inv-loop μ-loop
 returns-2 c = record { smallest-for = ends-low _ _ (stacked _ _ _ _ (c .before .before .before .before .before .before .before .before .before .before .before .before .pre .0 .lists) (c .before .before .before .before .before .before .before .before .before .before .before .before .pre .0 .some)) (c .before .before .before .before .before .before .before .before .before .before .before .before .pre .1 .1) _ _ (c .before .before .before .loop .inv .0) (c .if1 .left); held = c .before .before .before .loop .inv .1 }
 

@@ -6,41 +6,28 @@ use native.Mathlib.Omega.{arith}
 use borrow.Author.Needs.{needs}
 use Rattle.fold_area.proofs.smallest.Statement.{statement}
 use Rattle.fold_area.proofs.smallest.Tie as tie
-use Rattle.fold_area.proofs.smallest.Reads as reads
-use Rattle.fold_area.proofs.smallest.Lts as lts
-use Rattle.best.proofs.flat_of.Reads as flat-of-reads
-use Rattle.fold_area.proofs.first_lead.Reads as first-lead-reads
-use Rattle.fold_area.proofs.pass.Reads as pass-reads
 
--- src/lib.rt:181:9
 flat-of-requires : tie.Need-flat-of-requires
 flat-of-requires c κs = (any-kind (c .before .before .before .before .before .before .before .pre .lists), c .before .before .before .before .before .before .before .pre .some)
 
--- src/lib.rt:188:9
 first-lead-requires : tie.Need-first-lead-requires
 first-lead-requires c κs = (c .before .before .before .before .before .before .before .before .before .before .before .before .pre, flat-leads _ _ (stacked _ _ _ _ (c .before .before .before .before .before .before .before .before .before .before .before .before .pre .lists) (c .before .before .before .before .before .before .before .before .before .before .before .before .pre .some)) _ (c .before .before .before .before .flat-of .ensures))
 
--- src/lib.rt:200:5
 pass-requires : tie.Need-pass-requires
 pass-requires c κs = (asks-again (c .before .before .before .before .before .before .before .before .before .before .before .before .before .before .before .before .before .before .before .before .before .before .before .before .before .pre) (omega arith) (c .before .before .before .before .before .before .before .before .before .before .before .before .first-lead .kept .1 .1 .1 .1 .1 .1 .0) (c .before .before .before .before .before .before .before .before .before .before .before .before .first-lead .kept .1 .1 .1 .1 .1 .1 .1 .0) (c .before .before .before .before .before .before .before .before .before .before .before .before .first-lead .kept .1 .1 .1 .1 .1 .1 .1 .1 .0) (omega (arith, c .before .before .before .before .before .before .before .before .before .before .before .before .first-lead .kept .1 .1 .1 .1 .1 .1 .1 .1 .1 .0, c .before .before .before .before .before .before .before .before .before .before .before .before .before .before .before .before .before .before .before .before .before .before .before .before .before .pre .room)), (c .before .before .before .before .before .before .before .before .before .before .before .before .first-lead .ensures, record { widest-is = c .before .before .before .before .before .before .before .before .before .before .before .before .before .before .before .before .before .flat-of .ensures .widest-is; tallest-is = c .before .before .before .before .before .before .before .before .before .before .before .before .before .before .before .before .before .flat-of .ensures .tallest-is; cells-is = c .before .before .before .before .before .before .before .before .before .before .before .before .before .before .before .before .before .flat-of .ensures .cells-is }))
 
--- src/lib.rt:166:1
 same-length : tie.Need-same-length
 same-length c = search needs
 
--- src/lib.rt:166:1
 same-length-2 : tie.Need-same-length-2
 same-length-2 c = search needs
 
--- src/lib.rt:166:1
 same-length-3 : tie.Need-same-length-3
 same-length-3 c = search needs
 
--- src/lib.rt:166:1
 same-length-4 : tie.Need-same-length-4
 same-length-4 c = search needs
 
--- src/lib.rt:166:1
 returns : tie.Need-returns
 returns c = c .before .before .before .before .before .before .before .before .pass .ensures
 

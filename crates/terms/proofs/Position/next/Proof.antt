@@ -3,15 +3,12 @@ use borrow.Author.Needs.{needs}
 use Rattle.terms.proofs.Position.next.Statement.{statement}
 use Rattle.terms.proofs.Position.next.Tie as tie
 
--- src/lib.rt:91:25
 add-t3 : tie.Need-add-t3
 add-t3 c = search needs
 
--- src/lib.rt:90:13
 returns : tie.Need-returns
 returns c = rw (lt-ltb _ _ (c .before .if1 .taken))
 
--- src/lib.rt:86:5
 returns-2 : tie.Need-returns-2
 returns-2 c = rw (le-ltb _ _ (c .if1 .left))
 
