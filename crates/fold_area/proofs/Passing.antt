@@ -58,6 +58,13 @@ module _ (kind : Kind) (cs : List Component) (s : Stacked cs) where
         small = mul-le-mul same (u .low);
       })
 
+  -- The limit behind what leads, where nothing is narrower.
+  pub own-asks : (o : Outline) → Lead kind cs o → (0 < o .width .0) × (areaOf o ≤ o .width .0 * 2000000)
+  own-asks o l = let same : o .width .0 ≤ o .width .0 = omega arith in (l .wide, mul-le-mul same (l .low))
+
+  pub own-limit : (o : Outline) → Lead kind cs o → (cells : ℕ) → nextLimit o (o .width .0) cells ≤ 2000000
+  own-limit o l cells = limit-most o (o .width .0) 2000000 cells (own-asks o l .1)
+
   module _ (o : Outline) (lead : Lead kind cs o) (limit : ℕ) (low : limit ≤ 2000000) (p : Outline) (e : p ≡ bestAt kind limit cs) (m : p .width .0 < none) where
     met : layoutOf kind limit 0 cs .width < none
     met = rw e at m

@@ -26,7 +26,7 @@ use terms::Rows;
 use terms::Slices;
 
 // A stack is planned first for a part of its height, one in twice as many and lower, where that is over the tallest component.
-const LOW: u32 = 4;
+const LOW: u32 = 8;
 
 // The height of the outline of smallest area, and the limit of the plan that the lists hold. That is 0 where they hold none.
 struct Found {
@@ -76,11 +76,13 @@ fn next_limit(o: Outline, least: Slices, cells: u64) -> Rows
 }
 
 // A small area to begin with, that of the stack without a fold or of a low and wide folding. Each plan is for half the height
-// of the one before, the last for the tallest component.
+// of the one before, down to the tallest component or to where no folding is so low. Where the stack without a fold is all
+// cells, nothing is smaller and none is made.
 fn first_lead(
     kind: Kind,
     flat: Outline,
     tallest: Rows,
+    cells: u64,
     h: &[u16],
     w: &[u16],
     g: &[u16],
@@ -96,7 +98,7 @@ fn first_lead(
 {
     let mut lead = flat;
     let mut known = 0;
-    let mut limit = flat.height.0 / LOW;
+    let mut limit = next_limit(flat, Slices(flat.width.0), cells).0 / LOW;
     while tallest.0 < limit {
         limit = larger(tallest.0, limit / 2);
         let o = plan::replan(
@@ -114,6 +116,8 @@ fn first_lead(
         known = limit;
         if o.width.0 < NONE {
             lead = smaller(o, lead);
+        } else {
+            return lead;
         }
     }
     lead
@@ -189,6 +193,7 @@ fn smallest(
         kind,
         unfolded,
         tallest,
+        flat.cells,
         h,
         w,
         g,
