@@ -1,9 +1,9 @@
 -- No folding has fewer cells in its outline than its components have, nor is it lower than the tallest one.
-use Prim.Native.Nat.{ℕ, zero, suc, _+_, _-_, _*_, _≤_, _<_, max, min}
+use Prim.Native.Nat.{ℕ, zero, suc, _+_, _-_, _*_, _≤_, max, min}
 use mathlib.Core.Path.{_≡_, refl, sym, _∙_}
 use mathlib.Core.List.{List, [], _∷_}
 use mathlib.Core.Bool.{Bool, true, false, cond, false≢true}
-use native.Mathlib.Nat.{add-mul, suc-mul, mul-suc, mul-comm, mul-le-mul-right}
+use native.Mathlib.Nat.{add-mul, mul-suc, mul-comm, mul-le-mul-right}
 use native.Mathlib.Decide.{decLe, decLt}
 use native.Mathlib.Omega.{arith}
 use lib.ListN.{length}
@@ -14,6 +14,7 @@ use Rattle.folding.specs.declared.Placement.{Placement}
 use Rattle.folding.specs.Placement.{heightOf, widthOf, startOf, endOf, placedOf}
 use Rattle.folding.specs.Legal.{sameGroup}
 use Rattle.folding.specs.Outline.{joined, groupsOf, topOf, takes, rowSum, groupWidth, lastGap, folded, foldGap, groupHeight, layoutWidth, layoutHeight, outlineOf}
+use Rattle.folding.proofs.Sums.{total, total-most}
 use Rattle.folding.proofs.Rows.{greatest-ge, takes-is, takes-of}
 
 -- The cells of placed components, and of groups of them.
@@ -24,16 +25,6 @@ cellsIn (x ∷ l) = widthOf x * heightOf x + cellsIn l
 unfoldable cellsInAll : List (List Placed) → ℕ
 cellsInAll [] = 0
 cellsInAll (g ∷ gs) = cellsIn g + cellsInAll gs
-
--- The sum of f 0, f 1, .., f (n - 1).
-unfoldable total : (ℕ → ℕ) → ℕ → ℕ
-total f zero = 0
-total f (suc n) = total f n + f n
-
-total-most : (f : ℕ → ℕ) (n c : ℕ) → ((r : ℕ) → r < n → f r ≤ c) → total f n ≤ n * c
-unfolding total
-total-most f zero c h = omega arith
-total-most f (suc n) c h = omega (arith, total-most f n c (λ r l. h r (omega arith)), h n (omega arith), suc-mul n c)
 
 -- The width that a component has in a row.
 abbrev widthAt : Placed → ℕ → ℕ

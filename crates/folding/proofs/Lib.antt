@@ -1,11 +1,15 @@
 pub mod Rules
 pub mod Groups
+pub mod Sums
 pub mod Rows
+pub mod StartRows
 pub mod Sides
 pub mod Pairs
 pub mod Apart
 pub mod Steps
 pub mod Placing
+pub mod Chains
+pub mod Sweep
 pub mod Walk
 pub mod Measuring
 pub mod Choosing

@@ -14,10 +14,10 @@ use Rattle.terms.specs.Component.{tabulate, componentIn, componentsIn}
 use Rattle.terms.proofs.Tabulate.{tabulate-length, tabulate-drop, tabulate-end, tabulate-front, tabulate-same}
 use Rattle.folding.specs.declared.Placed.{Placed}
 use Rattle.folding.specs.declared.Placement.{Placement}
-use Rattle.folding.specs.Placement.{heightOf, widthOf, gapOf, groupOf, startOf, endOf, left, placedOf, placementAt, placementsOf}
-use Rattle.folding.specs.Outline.{topOf, takes, rowSum, greatest, groupWidth, lastGap, folded, foldGap, groupHeight, groupsOf}
-use Rattle.folding.specs.Inner.{placedAt, placedIn, sideAt, startAt, endAt, total, sumAt, Lefts}
-use Rattle.folding.proofs.Rows.{peak, Tall, starts-suffice}
+use Rattle.folding.specs.Placement.{widthOf, gapOf, groupOf, endOf, left, placedOf, placementAt, placementsOf}
+use Rattle.folding.specs.Outline.{topOf, takes, rowSum, greatest, lastGap, folded, foldGap, groupHeight, groupsOf}
+use Rattle.folding.specs.Inner.{placedAt, placedIn, sideAt, endAt, Lefts}
+use Rattle.folding.proofs.Sums.{total}
 use Rattle.folding.proofs.Groups.{groups-join, groups-open}
 
 -- The components of a stack with the placements of a run of flat numbers.
@@ -39,54 +39,26 @@ pub placed-lists : (hs ws gs flat : List ℕ) → placedOf (componentsIn hs ws g
 placed-lists hs ws gs flat = placed-tabulate (componentIn hs ws gs) (placementAt flat) (length hs)
 
 -- Numbers of tabulated components.
-greatest-same : (f g : ℕ → ℕ) (n : ℕ) → ((i : ℕ) → i < n → f i ≡ g i) → greatest f n ≡ greatest g n
-unfolding greatest
-greatest-same f g zero e = refl
-greatest-same f g (suc n) e = rw (greatest-same f g n (λ i l. e i (omega arith)), e n (omega arith))
-
 module _ (g : ℕ → Placed) where
-  peak-last : (f : Placed → ℕ) (l : List Placed) (x : Placed) → peak f (l ++ (x ∷ [])) ≡ max (peak f l) (f x)
-  unfolding peak
-  peak-last f [] x = omega arith
-  peak-last f (y ∷ l) x = omega (arith, peak-last f l x)
-
-  peak-tabulate : (f : Placed → ℕ) (n : ℕ) → peak f (tabulate g n) ≡ greatest (λ i. f (g i)) n
-  unfolding tabulate greatest peak
-  peak-tabulate f zero = refl
-  peak-tabulate f (suc n) = peak-last f (tabulate g n) (g n) ∙ rw (peak-tabulate f n)
-
-  top-peak : (l : List Placed) → topOf l ≡ peak endOf l
-  unfolding topOf peak
-  top-peak [] = refl
-  top-peak (x ∷ l) = rw (top-peak l)
+  top-last : (l : List Placed) (x : Placed) → topOf (l ++ (x ∷ [])) ≡ max (topOf l) (endOf x)
+  unfolding topOf
+  top-last [] x = omega arith
+  top-last (y ∷ l) x = omega (arith, top-last l x)
 
   pub top-tabulate : (n : ℕ) → topOf (tabulate g n) ≡ greatest (λ i. endOf (g i)) n
-  top-tabulate n = top-peak (tabulate g n) ∙ peak-tabulate endOf n
+  unfolding tabulate greatest topOf
+  top-tabulate zero = refl
+  top-tabulate (suc n) = top-last (tabulate g n) (g n) ∙ rw (top-tabulate n)
 
   sum-last : (row : ℕ) (l : List Placed) (x : Placed) → rowSum (l ++ (x ∷ [])) row ≡ rowSum l row + cond (takes x row) (widthOf x) 0
   unfolding rowSum
   sum-last row [] x = omega arith
   sum-last row (y ∷ l) x = omega (arith, sum-last row l x)
 
-  sum-tabulate : (row n : ℕ) → rowSum (tabulate g n) row ≡ total (λ i. cond (takes (g i) row) (widthOf (g i)) 0) n
+  pub sum-tabulate : (row n : ℕ) → rowSum (tabulate g n) row ≡ total (λ i. cond (takes (g i) row) (widthOf (g i)) 0) n
   unfolding tabulate total rowSum
   sum-tabulate row zero = refl
   sum-tabulate row (suc n) = sum-last row (tabulate g n) (g n) ∙ rw (sum-tabulate row n)
-
-  tall-last : (l : List Placed) (x : Placed) → Tall l → 0 < heightOf x → Tall (l ++ (x ∷ []))
-  tall-last [] x t h = (h, tt)
-  tall-last (y ∷ l) x t h = (t .0, tall-last l x (t .1) h)
-
-  tall-tabulate : (n : ℕ) → ((i : ℕ) → i < n → 0 < heightOf (g i)) → Tall (tabulate g n)
-  unfolding tabulate
-  tall-tabulate zero h = tt
-  tall-tabulate (suc n) h = tall-last (tabulate g n) (g n) (tall-tabulate n (λ i l. h i (omega arith))) (h n (omega arith))
-
-  pub width-tabulate : (n : ℕ) → ((i : ℕ) → i < n → 0 < heightOf (g i)) → groupWidth (tabulate g n) ≡ greatest (λ j. total (λ i. cond (takes (g i) (startOf (g j))) (widthOf (g i)) 0) n) n
-  width-tabulate n h =
-      starts-suffice (tabulate g n) (tall-tabulate n h)
-      ∙ peak-tabulate (λ x. rowSum (tabulate g n) (startOf x)) n
-      ∙ greatest-same _ _ n (λ j l. sum-tabulate (startOf (g j)) n)
 
   gap-last : (l : List Placed) (x : Placed) → lastGap (l ++ (x ∷ [])) ≡ gapOf x
   unfolding lastGap
@@ -191,7 +163,3 @@ module _ (hs ws gs flat : List ℕ) (k : ℕ) (some : 0 < length hs) (first : si
   pub height-flat : length hs ≤ k → groupHeight g0 (placedIn hs ws gs flat) ≡ greatest (endAt hs flat) (length hs) + g0 + getD gs (length hs - 1) 0
   unfolding g
   height-flat h = rw (fold, le-ltb k (length hs) h, top-tabulate g (length hs), last)
-
--- The width of a group that stands in lists.
-pub width-lists : (hs ws gs flat : List ℕ) → ((i : ℕ) → i < length hs → 0 < getD hs i 0) → groupWidth (placedIn hs ws gs flat) ≡ greatest (λ j. sumAt hs ws flat (startAt flat j)) (length hs)
-width-lists hs ws gs flat t = width-tabulate (placedAt hs ws gs flat) (length hs) t

@@ -1,40 +1,22 @@
--- Sums, maxima and passes, one component further.
-use Prim.Native.Nat.{ℕ, zero, suc, _+_, _≤_, _<_, max}
-use mathlib.Core.Path.{_≡_, refl, sym, _∙_}
+-- Passes, one component further.
+use Prim.Native.Nat.{ℕ, zero, suc, _+_, _≤_, _<_}
+use mathlib.Core.Path.{_≡_, sym, _∙_}
 use mathlib.Core.List.{List, [], _∷_}
 use mathlib.Core.Bool.{Bool, true, false, _&&_}
 use native.Mathlib.Numerals.{add-one}
 use native.Mathlib.Omega.{arith}
 use lib.ListN.{length, getD, drop}
 use lib.Dec.{leb, eqb}
-use borrow.Author.Tests.{leb-true, ne-eqb}
+use borrow.Author.Tests.{leb-true}
 use borrow.Author.Count.{below-more}
 use Rattle.terms.specs.declared.Kind.{Kind}
 use Rattle.terms.specs.Component.{tabulate}
-use Rattle.terms.proofs.Bools.{both}
+use Rattle.terms.proofs.Bools.{both, and-is}
 use Rattle.terms.proofs.Tabulate.{tabulate-length, tabulate-at, tabulate-drop, tabulate-end}
 use Rattle.folding.specs.declared.Placed.{Placed}
 use Rattle.folding.specs.Placement.{groupOf, startOf, left}
-use Rattle.folding.specs.Legal.{each, eachPair, inRange, leftFirst, legal}
-use Rattle.folding.specs.Outline.{greatest}
-use Rattle.folding.specs.Inner.{total}
-use Rattle.folding.proofs.Rules.{aloneRules, nextRules, passes, alone-is, legal-is, legal-holds, legal-passes}
-
-pub total-more : (f : ℕ → ℕ) (i : ℕ) → total f (i + 1) ≡ total f i + f i
-unfolding total
-total-more f i = rw add-one
-
-pub total-none : (f : ℕ → ℕ) → total f 0 ≡ 0
-unfolding total
-total-none f = refl
-
-pub greatest-more : (f : ℕ → ℕ) (i : ℕ) → greatest f (i + 1) ≡ max (greatest f i) (f i)
-unfolding greatest
-greatest-more f i = rw add-one
-
-pub greatest-none : (f : ℕ → ℕ) → greatest f 0 ≡ 0
-unfolding greatest
-greatest-none f = refl
+use Rattle.folding.specs.Legal.{each, eachPair, inRange, inOrder, leftFirst, leftClear, rightClear, legal}
+use Rattle.folding.proofs.Rules.{Within, Next, within, opens, aloneRules, nextRules, passes, alone-is, next-is, legal-is, legal-holds, legal-passes}
 
 -- The pass of a legal folding, of which n components are tabulated.
 module _ (kind : Kind) (g : ℕ → Placed) (n : ℕ) where
@@ -99,10 +81,28 @@ module _ (g : ℕ → Placed) (n : ℕ) where
     pub legal-first : 0 < n → left (g 0) ≡ true
     legal-first h = legal-is kind (g 0 ∷ drop 1 (tabulate g n)) (rw (tabulate-drop g n 0 h) at e) .1
 
-    pub legal-opens : (i : ℕ) → i + 1 < n → (groupOf (g (i + 1)) ≡ groupOf (g i) → ⊥) → left (g (i + 1)) ≡ true
-    legal-opens i h d =
+    -- How a component may follow the one before it.
+    pub legal-next : (i : ℕ) → i + 1 < n → Next (g i) (g (i + 1))
+    legal-next i h =
         let r = legal-holds kind (tabulate g n) e in
-        let a = at-pair leftFirst (tabulate g n) (r .lefts) i (g 0) (omega (arith, tabulate-length g n)) in
-        let b : leftFirst (g i) (g (suc i)) ≡ true = rw (tabulate-at g n i (g 0) (omega arith), tabulate-at g n (suc i) (g 0) (omega arith)) at a in
-        let f : eqb (groupOf (g (suc i))) (groupOf (g i)) ≡ false = rw (← add-one i) (ne-eqb (groupOf (g (i + 1))) (groupOf (g i)) d) in
-        rw add-one (rw f at b)
+        rw add-one
+        (next-is (g i) (g (suc i)) (and-is (and-is (and-is (pair inOrder (r .order)) (pair leftFirst (r .lefts))) (pair leftClear (r .clear-left))) (pair rightClear (r .clear-right))))
+      where
+        pair : (rule : Placed → Placed → Bool) → eachPair rule (tabulate g n) ≡ true → rule (g i) (g (suc i)) ≡ true
+        pair rule a =
+            let b = at-pair rule (tabulate g n) a i (g 0) (omega (arith, tabulate-length g n)) in
+            rw (tabulate-at g n i (g 0) (omega arith), tabulate-at g n (suc i) (g 0) (omega arith)) at b
+
+    pub legal-opens : (i : ℕ) → i + 1 < n → (groupOf (g (i + 1)) ≡ groupOf (g i) → ⊥) → left (g (i + 1)) ≡ true
+    legal-opens i h d = go (legal-next i h)
+      where
+        go : Next (g i) (g (i + 1)) → left (g (i + 1)) ≡ true
+        go (within s w) = absurd (d s)
+        go (opens s v) = v
+
+    pub legal-within : (i : ℕ) → i + 1 < n → groupOf (g (i + 1)) ≡ groupOf (g i) → Within (g i) (g (i + 1))
+    legal-within i h d = go (legal-next i h)
+      where
+        go : Next (g i) (g (i + 1)) → Within (g i) (g (i + 1))
+        go (within s w) = w
+        go (opens s v) = absurd (omega arith)

@@ -5,14 +5,15 @@ use mathlib.Core.List.{List, _∷_}
 use native.Mathlib.Omega.{arith}
 use lib.ListN.{length, getD, take, drop, length-drop}
 use lib.Seq.{getD-take, getD-drop, length-take-le}
-use borrow.Author.Tests.{eqb-true}
+use borrow.Author.Tests.{eqb-true, eqb-false}
 use Rattle.terms.specs.Component.{tabulate}
 use Rattle.terms.proofs.Tabulate.{tabulate-same, tabulate-end}
 use Rattle.folding.specs.declared.Placed.{Placed}
 use Rattle.folding.specs.Outline.{groupWidth, groupHeight, lastGap, groupsOf, layoutWidth, layoutHeight}
-use Rattle.folding.specs.Inner.{placedAt, placedIn, groupAt, sideAt, GroupEnd, GroupIn, Legalised}
+use Rattle.folding.specs.Inner.{placedAt, placedIn, groupAt, sideAt, mostWidth, GroupEnd, Beside, GroupIn, Legalised}
+use Rattle.folding.proofs.Rules.{Within, down, turn, up}
 use Rattle.folding.proofs.Placing.{cut-tabulate, gap-tabulate}
-use Rattle.folding.proofs.Steps.{legal-low, legal-first, legal-opens}
+use Rattle.folding.proofs.Steps.{legal-low, legal-first, legal-opens, legal-within}
 
 -- The part of a list from a up to e.
 abbrev pub part : ℕ → ℕ → List ℕ → List ℕ
@@ -29,9 +30,15 @@ pub record Walked (hs ws gs flat : List ℕ) (width height before from : ℕ) : 
   pub inside : from ≤ length hs
   pub width-left : width + layoutWidth (groupsOf (drop from (placedIn hs ws gs flat))) ≡ layoutWidth (groupsOf (placedIn hs ws gs flat))
   pub height-left : max height (layoutHeight before (groupsOf (drop from (placedIn hs ws gs flat)))) ≡ layoutHeight 0 (groupsOf (placedIn hs ws gs flat))
-  pub bounded : width ≤ 65535 * from
+  pub bounded : width ≤ mostWidth * from
   pub small : before ≤ 65535
   pub opens : from < length hs → sideAt flat from ≡ 0
+
+-- What the rules say of two neighbours, at their places.
+beside-of : (hs ws gs flat : List ℕ) (i : ℕ) → Within (placedAt hs ws gs flat i) (placedAt hs ws gs flat (i + 1)) → Beside hs flat i
+beside-of hs ws gs flat i (down u v e) = record { left-first = λ b. eqb-true _ _ u; left-clear = λ a b. e; right-clear = λ a b. absurd (a (eqb-true _ _ u)) }
+beside-of hs ws gs flat i (turn u v) = record { left-first = λ b. eqb-true _ _ u; left-clear = λ a b. absurd (eqb-false _ _ v b); right-clear = λ a b. absurd (a (eqb-true _ _ u)) }
+beside-of hs ws gs flat i (up u v e) = record { left-first = λ b. absurd (eqb-false _ _ v b); left-clear = λ a b. absurd (eqb-false _ _ u a); right-clear = λ a b. e }
 
 module _ {hs ws gs flat : List ℕ} (v : Legalised hs ws gs flat) where
   abbrev g : ℕ → Placed
@@ -63,6 +70,17 @@ module _ {hs ws gs flat : List ℕ} (v : Legalised hs ws gs flat) where
           flat-at j 2 h (omega arith),
         )))
 
+    -- What the rules say of two neighbours of the group.
+    beside-at : ((i : ℕ) → from ≤ i → i < to → groupAt flat i ≡ groupAt flat from) → (j : ℕ) → j + 1 < to - from → Beside (part from to hs) (part (3 * from) (3 * to) flat) j
+    beside-at same j h =
+        let z : from + j + 1 ≡ from + (j + 1) = omega arith in
+        let b : Beside hs flat (from + j) = beside-of hs ws gs flat (from + j) (legal-within g (length hs) (v .is-legal .0) (v .is-legal .1) (from + j) (omega arith) (same (from + j + 1) (omega arith) (omega arith) ∙ sym (same (from + j) (omega arith) (omega arith)))) in
+        record {
+          left-first = rw (flat-at j 1 (omega arith) (omega arith), flat-at (j + 1) 1 h (omega arith), ← z) (b .left-first);
+          left-clear = rw (flat-at j 1 (omega arith) (omega arith), flat-at (j + 1) 1 h (omega arith), flat-at j 2 (omega arith) (omega arith), flat-at (j + 1) 2 h (omega arith), part-at from to (j + 1) hs h, ← z) (b .left-clear);
+          right-clear = rw (flat-at j 1 (omega arith) (omega arith), flat-at (j + 1) 1 h (omega arith), flat-at j 2 (omega arith) (omega arith), flat-at (j + 1) 2 h (omega arith), part-at from to j hs (omega arith), ← z) (b .right-clear);
+        }
+
   pub walk-start : Walked hs ws gs flat 0 0 0 0
   walk-start = record {
     inside = omega arith;
@@ -81,7 +99,6 @@ module _ {hs ws gs flat : List ℕ} (v : Legalised hs ws gs flat) where
           flat-group = record {
             some = omega (arith, e .some);
             few = omega (arith, v .stack .few, e .within);
-            gaps-long = part-length from to gs (omega (arith, e .some)) (omega (arith, v .stack .gaps-long, e .within)) ∙ sym l;
             flat-long = omega (arith, l, part-length (3 * from) (3 * to) flat (omega (arith, e .some)) (omega (arith, v .flat-long, e .within)));
             low = λ j h.
                 let h′ : j < to - from = omega (arith, l) in
@@ -90,8 +107,10 @@ module _ {hs ws gs flat : List ℕ} (v : Legalised hs ws gs flat) where
                 flat-at from to (e .some) (e .within) 0 1 (omega (arith, e .some)) (omega arith)
                 ∙ ap (λ (m : ℕ). getD flat m 0) (omega arith)
                 ∙ w .opens (omega (arith, e .some, e .within));
+            beside = λ j h. beside-at from to (e .some) (e .within) (e .same) j (omega (arith, l));
           };
           widths-long = part-length from to ws (omega (arith, e .some)) (omega (arith, v .stack .widths-long, e .within)) ∙ sym l;
+          gaps-long = part-length from to gs (omega (arith, e .some)) (omega (arith, v .stack .gaps-long, e .within)) ∙ sym l;
           tall = λ j h.
               let h′ : j < to - from = omega (arith, l) in
               rw (part-at from to j hs h′) (v .stack .tall (from + j) (omega (arith, e .within)));
@@ -109,7 +128,7 @@ module _ {hs ws gs flat : List ℕ} (v : Legalised hs ws gs flat) where
         ∙ subst (λ (d : ℕ). lastGap (tabulate (λ j. g (from + j)) d) ≡ getD gs (to - 1) 0) k
         (gap-tabulate (λ j. g (from + j)) (to - from - 1) ∙ ap (λ (m : ℕ). getD gs m 0) (omega (arith, e .some)))
 
-    pub walk-on : {w₁ h₁ height₁ before₁ : ℕ} → w₁ ≡ groupWidth (mine from to (e .some) (e .within)) → h₁ ≡ groupHeight before (mine from to (e .some) (e .within)) → w₁ ≤ 65535 * length (part from to hs)
+    pub walk-on : {w₁ h₁ height₁ before₁ : ℕ} → w₁ ≡ groupWidth (mine from to (e .some) (e .within)) → h₁ ≡ groupHeight before (mine from to (e .some) (e .within)) → w₁ ≤ mostWidth
         → height₁ ≡ max height h₁ → before₁ ≡ getD gs (to - 1) 0 → before₁ ≤ 65535 → Walked hs ws gs flat (width + w₁) height₁ before₁ to
     unfolding layoutWidth layoutHeight
     walk-on {w₁} {h₁} {height₁} {before₁} a b c d f s =

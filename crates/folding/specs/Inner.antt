@@ -1,8 +1,8 @@
 -- What the functions inside this crate promise each other. Nothing here is part of a public promise.
-use Prim.Native.Nat.{ℕ, zero, suc, _+_, _*_, _≤_, _<_}
+use Prim.Native.Nat.{ℕ, _+_, _-_, _*_, _≤_, _<_}
 use mathlib.Core.Path.{_≡_}
 use mathlib.Core.List.{List}
-use mathlib.Core.Bool.{true, cond, _&&_}
+use mathlib.Core.Bool.{Bool, true, false, cond, _&&_}
 use lib.ListN.{length, getD, take}
 use lib.Dec.{leb, ltb}
 use Rattle.terms.specs.Numbers.{mostApart}
@@ -16,6 +16,7 @@ use Rattle.folding.specs.Calls.{measureIn, winnerIs}
 use Rattle.folding.specs.Legal.{mostStart, legal}
 use Rattle.folding.specs.Placement.{placementAt}
 use Rattle.folding.specs.Outline.{groupWidth, groupHeight, widthIn, heightIn}
+use Rattle.folding.specs.StartRows.{WidthAtStart}
 
 -- A stack in three lists, and its placements in a run of flat numbers.
 abbrev pub placedAt : List ℕ → List ℕ → List ℕ → List ℕ → ℕ → Placed
@@ -36,21 +37,17 @@ startAt flat i = getD flat (3 * i + 2) 0
 abbrev pub endAt : List ℕ → List ℕ → ℕ → ℕ
 endAt hs flat i = startAt flat i + getD hs i 0
 
--- f 0 + f 1 + .. + f (n - 1)
-unfoldable pub total : (ℕ → ℕ) → ℕ → ℕ
-total f zero = 0
-total f (suc n) = total f n + f n
-
 -- What component i adds to the sum of a row.
 abbrev pub shareAt : List ℕ → List ℕ → List ℕ → ℕ → ℕ → ℕ
 shareAt hs ws flat row i = cond (leb (startAt flat i) row && ltb row (endAt hs flat i)) (getD ws i 0) 0
 
-abbrev pub sumAt : List ℕ → List ℕ → List ℕ → ℕ → ℕ
-sumAt hs ws flat row = total (shareAt hs ws flat row) (length hs)
+-- The sum of the row where component i starts: on its side it is alone there, and on the other side at most one lies there.
+abbrev pub sumAtStart : List ℕ → List ℕ → List ℕ → ℕ → ℕ → Bool → ℕ
+sumAtStart hs ws flat i other both = getD ws i 0 + cond both (shareAt hs ws flat (startAt flat i) other) 0
 
--- The sum of the row where component i starts.
-abbrev pub sumAtStart : List ℕ → List ℕ → List ℕ → ℕ → ℕ
-sumAtStart hs ws flat i = sumAt hs ws flat (startAt flat i)
+-- Two widths of 16 bits.
+abbrev pub mostWidth : ℕ
+mostWidth = 131070
 
 -- The lists are long enough for the placed components.
 pub record Listed (hs ws gs flat : List ℕ) : Type 0 where
@@ -67,10 +64,6 @@ StandsAt hs flat i = (i < length hs) × (i < mostApart) × (3 * i + 2 < length f
 abbrev pub Low : List ℕ → ℕ → Type 0
 Low flat n = (i : ℕ) → i < n → startAt flat i ≤ mostStart
 
--- Nor does any of a group, whose placements are all there.
-abbrev pub Topped : List ℕ → List ℕ → Type 0
-Topped hs flat = (length hs ≤ mostApart) × (3 * length hs ≤ length flat) × Low flat (length hs)
-
 -- The group of the component at `from` ends before `to`.
 pub record GroupEnd (flat : List ℕ) (n from to : ℕ) : Type 0 where
   pub some : from < to
@@ -84,29 +77,60 @@ pub record Lefts (flat : List ℕ) (n k : ℕ) : Type 0 where
   pub on-left : (i : ℕ) → i < k → sideAt flat i ≡ 0
   pub next : k < n → sideAt flat k ≡ 0 → ⊥
 
--- A group's lists, whose first component is on the left.
-pub record GroupFlat (hs gs flat : List ℕ) : Type 0 where
+-- What the rules say of component i of a group and the one after it.
+pub record Beside (hs flat : List ℕ) (i : ℕ) : Type 0 where
+  pub left-first : sideAt flat (i + 1) ≡ 0 → sideAt flat i ≡ 0
+  pub left-clear : sideAt flat i ≡ 0 → sideAt flat (i + 1) ≡ 0 → endAt hs flat (i + 1) ≤ startAt flat i
+  pub right-clear : (sideAt flat i ≡ 0 → ⊥) → (sideAt flat (i + 1) ≡ 0 → ⊥) → endAt hs flat i ≤ startAt flat (i + 1)
+
+-- The placements of a group.
+pub record GroupFlat (hs flat : List ℕ) : Type 0 where
   pub some : 0 < length hs
   pub few : length hs ≤ mostApart
-  pub gaps-long : length gs ≡ length hs
   pub flat-long : 3 * length hs ≤ length flat
   pub low : Low flat (length hs)
   pub first-left : sideAt flat 0 ≡ 0
+  pub beside : (i : ℕ) → i + 1 < length hs → Beside hs flat i
+
+-- The sides of a group with k components on the left: there each ends at or below the start of those before it, and on the
+-- right at or below the start of those behind it.
+pub record Chains (hs flat : List ℕ) (k : ℕ) : Type 0 where
+  pub within : k ≤ length hs
+  pub falls : (i j : ℕ) → i < j → j < k → endAt hs flat j ≤ startAt flat i
+  pub rises : (i j : ℕ) → k ≤ i → i < j → j < length hs → endAt hs flat i ≤ startAt flat j
+
+-- Where the components from `low` up to `high` have started, the next is the one before them, on the left, or the one
+-- behind them, on the right.
+abbrev pub NextStart : List ℕ → ℕ → ℕ → ℕ → Bool → Type 0
+NextStart flat n low high true = (0 < low) × (high < n → startAt flat (low - 1) ≤ startAt flat high)
+NextStart flat n low high false = (high < n) × (0 < low → startAt flat high ≤ startAt flat (low - 1))
+
+-- A group whose width is asked for.
+pub record Wide (hs ws flat : List ℕ) (k : ℕ) : Type 0 where
+  pub flat-group : GroupFlat hs flat
+  pub chains : Chains hs flat k
+  pub widths-long : length ws ≡ length hs
+  pub tall : (i : ℕ) → i < length hs → 0 < getD hs i 0
+
+-- The width of a group, which a row has where a component starts, whatever the gaps are.
+abbrev pub WidthIs : List ℕ → List ℕ → List ℕ → ℕ → Type 0
+WidthIs hs ws flat width = (gs : List ℕ) → (width ≡ groupWidth (placedIn hs ws gs flat)) × WidthAtStart (placedIn hs ws gs flat)
 
 -- The height of a group behind the gap g0, whatever its widths are.
 abbrev pub HeightIs : ℕ → List ℕ → List ℕ → List ℕ → ℕ → Type 0
 HeightIs g0 hs gs flat height = (ws : List ℕ) → height ≡ groupHeight g0 (placedIn hs ws gs flat)
 
 pub record GroupIn (hs ws gs flat : List ℕ) : Type 0 where
-  pub flat-group : GroupFlat hs gs flat
+  pub flat-group : GroupFlat hs flat
   pub widths-long : length ws ≡ length hs
+  pub gaps-long : length gs ≡ length hs
   pub tall : (i : ℕ) → i < length hs → 0 < getD hs i 0
 
--- The width and the height of a group behind the gap g0. Numbers of 16 bits add up to the width.
+-- The width and the height of a group behind the gap g0.
 pub record GroupOutlined (g0 : ℕ) (hs ws gs flat : List ℕ) (o : Outline) : Type 0 where
   pub width-is : o .width .0 ≡ groupWidth (placedIn hs ws gs flat)
   pub height-is : o .height .0 ≡ groupHeight g0 (placedIn hs ws gs flat)
-  pub slim : o .width .0 ≤ 65535 * length hs
+  pub slim : o .width .0 ≤ mostWidth
 
 abbrev pub outlineIn : List Placed → Outline
 outlineIn l = record { width = record { 0 = widthIn l }; height = record { 0 = heightIn l } }

@@ -1,7 +1,7 @@
 // Foldings: what a folding's outline is, and which of two is better.
 ghost use mathlib.Core.Path.{_≡_};
 ghost use mathlib.Core.Bool.{true, _&&_};
-ghost use Prim.Native.Nat.{_+_, _*_, _≤_, _<_};
+ghost use Prim.Native.Nat.{ℕ, _+_, _-_, _*_, _≤_, _<_};
 ghost use lib.ListN.{length};
 ghost use lib.Dec.{eqb};
 ghost use Rattle.terms.specs.Numbers.{mostApart};
@@ -11,8 +11,8 @@ ghost use Rattle.folding.specs.Legal.{mostStart, legal, inRange, onSide}
 ghost use Rattle.folding.specs.Legal.{sameGroup, inOrder, leftFirst, leftClear, rightClear};
 ghost use Rattle.folding.specs.Outline.{greatest};
 ghost use Rattle.folding.specs.Calls.{measuredAnswer, measureIn, measureOf, chooseOf, secondWins, winnerIs};
-ghost use Rattle.folding.specs.Inner.{placedAt, placedIn, endAt, shareAt, sumAt, sumAtStart, outlineIn};
-ghost use Rattle.folding.specs.Inner.{Listed, StandsAt, Topped, GroupEnd, Lefts, GroupFlat, HeightIs};
+ghost use Rattle.folding.specs.Inner.{placedAt, placedIn, endAt, shareAt, sumAtStart, mostWidth, outlineIn};
+ghost use Rattle.folding.specs.Inner.{Listed, StandsAt, GroupEnd, Lefts, GroupFlat, Chains, NextStart, Wide, WidthIs, HeightIs};
 ghost use Rattle.folding.specs.Inner.{GroupIn, GroupOutlined, StackIn, FirstIn, Legalised, measureFirst, betterFirst};
 use numbers::component;
 use numbers::larger;
@@ -191,20 +191,15 @@ fn end_at(heights: &[u16], flat: &[u32], i: usize) -> Rows
     Rows(flat[3 * i + 2] + wide(heights[i]))
 }
 
-// T: one more than the highest row of the group.
+// T: one more than the highest row of the group. On the left the first component is the highest, on the right the last.
 fn top(heights: &[u16], flat: &[u32]) -> Rows
-    requires { ⌜ Topped (now heights) (now flat) ⌝ }
+    requires { ⌜ GroupFlat (now heights) (now flat) × ((k : ℕ) × Chains (now heights) (now flat) k) ⌝ }
     ensures { λ r. ⌜ r .0
         ≡ greatest (endAt (now (heights .entry)) (now (flat .entry))) (length (now (heights .entry))) ⌝ }
     ensures { λ r. ⌜ r .0 ≤ mostStart + 65535 ⌝ }
 {
-    let mut t = 0;
-    let mut i = 0;
-    while i < heights.len() {
-        t = larger(t, end_at(heights, flat, i).0);
-        i += 1;
-    }
-    Rows(t)
+    let last = heights.len() - 1;
+    Rows(larger(end_at(heights, flat, 0).0, end_at(heights, flat, last).0))
 }
 
 // What component i adds to the sum of a row.
@@ -219,39 +214,6 @@ fn share(heights: &[u16], widths: &[u16], flat: &[u32], row: Rows, i: usize) -> 
         }
     }
     Slices(0)
-}
-
-// The sum of the widths that lie in a row.
-fn row_sum(heights: &[u16], widths: &[u16], flat: &[u32], row: Rows) -> Slices
-    requires { ⌜ Topped (now heights) (now flat) × (length (now widths) ≡ length (now heights)) ⌝ }
-    ensures { λ r. ⌜ r .0 ≡ sumAt (now (heights .entry)) (now (widths .entry)) (now (flat .entry)) (row .0) ⌝ }
-    ensures { λ r. ⌜ r .0 ≤ 65535 * length (now (heights .entry)) ⌝ }
-{
-    let mut sum = 0;
-    let mut i = 0;
-    while i < heights.len() {
-        sum += share(heights, widths, flat, row, i).0;
-        i += 1;
-    }
-    Slices(sum)
-}
-
-// The greatest row sum of a group: it occurs at a row where a component starts.
-fn group_width(heights: &[u16], widths: &[u16], flat: &[u32]) -> Slices
-    requires { ⌜ Topped (now heights) (now flat) × (length (now widths) ≡ length (now heights)) ⌝ }
-    ensures { λ r. ⌜ r .0
-        ≡ greatest (sumAtStart (now (heights .entry)) (now (widths .entry)) (now (flat .entry)))
-        (length (now (heights .entry))) ⌝ }
-    ensures { λ r. ⌜ r .0 ≤ 65535 * length (now (heights .entry)) ⌝ }
-{
-    let mut width = 0;
-    let mut i = 0;
-    while i < heights.len() {
-        let sum = row_sum(heights, widths, flat, Rows(flat[3 * i + 2]));
-        width = larger(width, sum.0);
-        i += 1;
-    }
-    Slices(width)
 }
 
 // How many components of a group are on the left before the first on the right.
@@ -269,15 +231,80 @@ fn lefts(flat: &[u32], n: usize) -> usize
     k
 }
 
-fn group_height(heights: &[u16], gaps: &[u16], flat: &[u32], before: Rows) -> Rows
-    requires { ⌜ GroupFlat (now heights) (now gaps) (now flat) × (before .0 ≤ 65535) ⌝ }
+// The sum of the row where component i starts. On its own side it is alone there; `other` is the last that started on the
+// other side, where both sides have started.
+fn start_sum(
+    heights: &[u16],
+    widths: &[u16],
+    flat: &[u32],
+    i: usize,
+    other: usize,
+    both: bool,
+) -> Slices
+    requires { ⌜ StandsAt (now heights) (now flat) i × (length (now widths) ≡ length (now heights)) ⌝ }
+    requires { ⌜ (both ≡ true → StandsAt (now heights) (now flat) other) ⌝ }
+    ensures { λ r. ⌜ r .0
+        ≡ sumAtStart (now (heights .entry)) (now (widths .entry)) (now (flat .entry)) i other both ⌝ }
+    ensures { λ r. ⌜ r .0 ≤ mostWidth ⌝ }
+{
+    let own = wide(widths[i]);
+    let row = Rows(flat[3 * i + 2]);
+    if both {
+        return Slices(own + share(heights, widths, flat, row, other).0);
+    }
+    Slices(own)
+}
+
+// Whether the next component to start is on the left, where those from `low` up to `high` have started.
+fn left_next(flat: &[u32], n: usize, low: usize, high: usize) -> bool
+    requires { ⌜ (n ≤ mostApart) × (3 * n ≤ length (now flat)) × (low ≤ high) × (high ≤ n) × (high - low < n) ⌝ }
+    ensures { λ r. ⌜ NextStart (now (flat .entry)) n low high r ⌝ }
+{
+    if low == 0 {
+        return false;
+    }
+    if high == n {
+        return true;
+    }
+    flat[3 * (low - 1) + 2] <= flat[3 * high + 2]
+}
+
+// The greatest row sum of a group with k components on the left. It occurs at a row where a component starts, so one row is
+// summed for each, lowest first: back along the left side and on along the right one, as two sorted lists are merged.
+fn group_width(heights: &[u16], widths: &[u16], flat: &[u32], k: usize) -> Slices
+    requires { ⌜ Wide (now heights) (now widths) (now flat) k ⌝ }
+    ensures { λ r. ⌜ WidthIs (now (heights .entry)) (now (widths .entry)) (now (flat .entry)) (r .0) ⌝ }
+    ensures { λ r. ⌜ r .0 ≤ mostWidth ⌝ }
+{
+    let n = heights.len();
+    let mut low = k;
+    let mut high = k;
+    let mut width = 0;
+    while high - low < n {
+        if left_next(flat, n, low, high) {
+            let both = k < high;
+            low -= 1;
+            let left = start_sum(heights, widths, flat, low, high - 1, both);
+            width = larger(width, left.0);
+        } else {
+            let both = low < k;
+            let right = start_sum(heights, widths, flat, high, low, both);
+            width = larger(width, right.0);
+            high += 1;
+        }
+    }
+    Slices(width)
+}
+
+fn group_height(heights: &[u16], gaps: &[u16], flat: &[u32], k: usize, before: Rows) -> Rows
+    requires { ⌜ GroupFlat (now heights) (now flat) × (length (now gaps) ≡ length (now heights)) ⌝ }
+    requires { ⌜ Lefts (now flat) (length (now heights)) k × (before .0 ≤ 65535) ⌝ }
     ensures { λ r. ⌜ HeightIs (before .0) (now (heights .entry)) (now (gaps .entry)) (now (flat .entry)) (r .0) ⌝ }
 {
     let n = heights.len();
     let t = top(heights, flat).0;
     let g0 = before.0;
     let g1 = wide(gaps[n - 1]);
-    let k = lefts(flat, n);
     if k < n {
         return Rows(t + larger(g0, g1) + wide(gaps[k - 1]));
     }
@@ -296,9 +323,10 @@ fn group_outline(
     ensures { λ r. ⌜ GroupOutlined (before .0)
         (now (heights .entry)) (now (widths .entry)) (now (gaps .entry)) (now (flat .entry)) r ⌝ }
 {
+    let k = lefts(flat, heights.len());
     Outline {
-        width: group_width(heights, widths, flat),
-        height: group_height(heights, gaps, flat, before),
+        width: group_width(heights, widths, flat, k),
+        height: group_height(heights, gaps, flat, k, before),
     }
 }
 

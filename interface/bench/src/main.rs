@@ -1,12 +1,14 @@
 //! Times both folds and the table, next to document 001's own method on the same stacks, both folds over a sweep of
-//! limits, and the smallest area; checks that all find the same outlines. Prints the tables of docs/PERFORMANCE.md, and
-//! as each row is done a line to standard error. Arguments, each with a file behind it: --picture, where to write the
-//! plot; --before, the figures of an earlier run to show beside these; --keep, where to write the figures of this one.
+//! limits, the smallest area, and measuring; checks that all find the same outlines. Prints the tables of
+//! docs/PERFORMANCE.md, and as each row is done a line to standard error. Arguments: --measure, to time measuring alone.
+//! With a file behind it: --picture, where to write the plot; --before, the figures of an earlier run to show beside
+//! these; --keep, where to write the figures of this one.
 
 mod clock;
 mod figures;
 mod growth;
 mod library;
+mod measuring;
 mod panels;
 mod paper;
 mod plot;
@@ -33,6 +35,9 @@ const STACKS: usize = 7;
 const CELL: f64 = 12.0;
 
 fn main() {
+    if env::args().any(|word| word == "--measure") {
+        return measuring::print();
+    }
     // Read first: a file that cannot be read should not cost a whole run.
     let before = named("--before").map(|path| figures::rows(&fs::read_to_string(path).expect("the figures are read")));
     let before = before.unwrap_or_default();
@@ -67,6 +72,7 @@ fn print(nested: &[Row], apart: &[Row], before: &[Row]) {
     report::print_times(apart);
     report::print_areas(nested);
     report::print_areas(apart);
+    measuring::print();
 }
 
 fn rows(nested: bool, counts: &[usize]) -> Vec<Row> {

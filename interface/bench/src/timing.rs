@@ -142,6 +142,16 @@ fn both<T: PartialEq + Debug>(library: impl FnMut() -> T, paper: impl FnMut() ->
     (found, [library, paper])
 }
 
+/// A call's result and the least of its times in so many turns.
+pub fn least_time<T>(mut call: impl FnMut() -> T) -> (T, f64) {
+    let (mut result, mut least) = time(&mut call);
+    for _ in 1..TURNS {
+        let (again, seconds) = time(&mut call);
+        (result, least) = (again, least.min(seconds));
+    }
+    (result, least)
+}
+
 /// A call's result and its seconds.
 fn time<T>(mut call: impl FnMut() -> T) -> (T, f64) {
     let start = clock::seconds();

@@ -187,7 +187,7 @@ fn damaged_folding(rng: &mut Rng, file: &[u8], nested: bool) -> Vec<u32> {
     let other = [Component { height: 1, width: 1, gap: 0 }; 3];
     let stack = rules::check(file, nested).unwrap_or(other.to_vec());
     let both_sides = nested || rng.one_in(8);
-    let mut folding = random_folding(rng, &stack, both_sides);
+    let mut folding = random_folding(rng, &stack, both_sides, 6, 0);
     for _ in 0..rng.below(3) {
         damage_folding(rng, &mut folding);
     }
@@ -217,15 +217,17 @@ fn damage_folding(rng: &mut Rng, folding: &mut Vec<u32>) {
     }
 }
 
-/// A legal folding of the kind, with empty rows here and there.
-fn random_folding(rng: &mut Rng, stack: &[Component], nested: bool) -> Vec<u32> {
+/// A legal folding of the kind, with empty rows here and there. Its groups have up to `most` components and begin up to
+/// `lift` rows above row 0.
+pub fn random_folding(rng: &mut Rng, stack: &[Component], nested: bool, most: usize, lift: u32) -> Vec<u32> {
     let mut folding = vec![0; 3 * stack.len()];
     let (mut first, mut group) = (0, 0);
     while first < stack.len() {
-        let end = first + 1 + rng.below((stack.len() - first).min(6));
+        let end = first + 1 + rng.below((stack.len() - first).min(most));
         let right = if nested { first + 1 + rng.below(end - first) } else { end };
+        let lowest = rng.within(0, lift);
         let mut side = |components: &mut dyn Iterator<Item = usize>, side: u32| {
-            let mut row = 0;
+            let mut row = lowest;
             for i in components {
                 row += if rng.one_in(4) { rng.within(1, 2) } else { 0 };
                 folding[3 * i..3 * i + 3].copy_from_slice(&[group, side, row]);

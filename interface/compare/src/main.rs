@@ -32,6 +32,9 @@ const APART_WAIT: usize = rules::WORK / 2;
 /// Outlines of the longest table here.
 const MOST_LINES: usize = 7_719;
 const DAMAGED: usize = 300_000;
+const MEASURED: usize = 4_000;
+/// The highest start row.
+const HIGHEST: u32 = 1_024_000;
 
 fn main() -> ExitCode {
     let seed = env::args().nth(1).map_or(Ok(1), |word| word.parse::<u64>());
@@ -62,6 +65,8 @@ fn all(caller: &mut Caller) -> Compared<()> {
     part("known stacks and edges", caller);
     damaged(caller)?;
     part(&format!("{DAMAGED} damaged files, foldings, limits and buffers"), caller);
+    measured(caller)?;
+    part(&format!("{MEASURED} foldings of 1 to 64 components nested, 1 to 256 apart, measured row by row"), caller);
     let foldings = enumerated(caller)?;
     part(&format!("{ENUMERATED} stacks of 1 to 5 components, {foldings} foldings enumerated"), caller);
     searched(caller)?;
@@ -84,6 +89,25 @@ fn all(caller: &mut Caller) -> Compared<()> {
 fn told(stack: &[Component], nested: bool) -> impl FnOnce(String) -> String {
     let sizes = stack.iter().map(|c| format!("{}/{}/{}", c.height, c.width, c.gap)).collect::<Vec<_>>().join(" ");
     move |what| format!("{what}\n{} stack, height/width/gap: {sizes}", if nested { "nested" } else { "apart" })
+}
+
+/// Groups of any length. Small numbers let components on both sides start in one row, or one end where another starts; a
+/// quarter of the foldings has large ones, and a quarter stands high.
+fn measured(caller: &mut Caller) -> Compared<()> {
+    for at in 0..MEASURED {
+        let nested = at % 2 == 0;
+        let count = caller.rng.within(1, if nested { 64 } else { 256 }) as usize;
+        let stack = match at / 2 % 4 {
+            0 => noisy(caller, count),
+            _ => random(&mut caller.rng, count, SHAPES[at / 8 % SHAPES.len()]),
+        };
+        // A component has at most two empty rows below it.
+        let most_lift = HIGHEST.saturating_sub(stack::total(&stack) + 2 * count as u32);
+        let lift = if at / 2 % 4 == 1 { most_lift } else { 0 };
+        let folding = damage::random_folding(&mut caller.rng, &stack, nested, count, lift);
+        caller.measure(&stack::file(&stack), nested, &folding).map_err(told(&stack, nested))?;
+    }
+    Ok(())
 }
 
 fn enumerated(caller: &mut Caller) -> Compared<u64> {

@@ -1,53 +1,61 @@
-use Prim.Native.Nat.{_-_, _*_, _≤_}
 use lib.ListN.{length}
-use Rattle.folding.specs.Inner.{sumAtStart}
-use Rattle.folding.specs.Outline.{greatest}
-use Rattle.folding.proofs.Steps.{greatest-none, greatest-more}
+use Prim.Native.Nat.{_+_, _-_}
+use Rattle.folding.proofs.Chains.{stands-at}
+use Rattle.folding.proofs.Sweep.{Swept, sweep-start, sweep-left, sweep-right, sweep-done}
 use native.Mathlib.Omega.{arith}
-use mathlib.Core.Path.{_≡_, sym}
-use denote.Ref.{now}
-use borrow.Author.Needs.{needs}
 use Rattle.folding.proofs.group_width.Statement.{statement}
 use Rattle.folding.proofs.group_width.Tie as tie
 
 abbrev Inv-loop : tie.InvT-loop
-Inv-loop heights widths flat width₀ i₀ width i = (i ≤ length heights) × (width ≡ greatest (sumAtStart heights widths flat) i) × (width ≤ 65535 * length heights)
+Inv-loop heights widths flat k n low₀ high₀ width₀ low high width = Swept heights widths flat k low high width
 
 abbrev μ-loop : tie.MeasureT-loop
-μ-loop heights widths flat width₀ i₀ width i = length heights - i
+μ-loop heights widths flat k n low₀ high₀ width₀ low high width = low + (length heights - high)
 
 loop-holds : tie.Need-loop-holds Inv-loop μ-loop
-loop-holds c = (omega arith, sym (greatest-none _), omega arith)
+loop-holds c = sweep-start (c .before .before .before .pre)
 
-mul-t7 : tie.Need-mul-t7 Inv-loop μ-loop
-mul-t7 c = search needs
+sub-loop : tie.Need-sub-loop Inv-loop μ-loop
+sub-loop c = omega (arith, c .loop .inv .below, c .loop .inv .above)
 
-add-t9 : tie.Need-add-t9 Inv-loop μ-loop
-add-t9 c = search needs
+left-next-requires : tie.Need-left-next-requires Inv-loop μ-loop
+left-next-requires c κs = (c .before .before .before .before .before .pre .flat-group .few, c .before .before .before .before .before .pre .flat-group .flat-long, omega (arith, c .before .loop .inv .below, c .before .loop .inv .above), c .before .loop .inv .inside, omega (arith, c .loop-test .taken, c .before .before .before .before .before .pre .chains .within))
 
-mul-t10 : tie.Need-mul-t10 Inv-loop μ-loop
-mul-t10 c = search needs
+sub-low : tie.Need-sub-low Inv-loop μ-loop
+sub-low c = let n = (rw (c .if1 .taken) at (c .before .left-next .ensures)) in omega (arith, n .0)
 
-shared-slice-read-t12 : tie.Need-shared-slice-read-t12 Inv-loop μ-loop
-shared-slice-read-t12 c = search needs
+sub-start-sum : tie.Need-sub-start-sum Inv-loop μ-loop
+sub-start-sum c = let n = (rw (c .if1 .taken) at (c .before .left-next .ensures)) in omega (arith, n .0, c .before .before .before .loop .inv .below, c .before .before .before .loop .inv .above)
 
-row-sum-requires : tie.Need-row-sum-requires Inv-loop μ-loop
-row-sum-requires c κs = c .before .before .before .before .before .before .pre
+start-sum-requires : tie.Need-start-sum-requires Inv-loop μ-loop
+start-sum-requires c κs = let n = (rw (c .if1 .taken) at (c .before .left-next .ensures)) in ((stands-at (c .before .before .before .before .before .before .before .pre .flat-group) _ (omega (arith, n .0, c .before .before .before .loop .inv .below, c .before .before .before .before .before .before .before .pre .chains .within)), c .before .before .before .before .before .before .before .pre .widths-long), λ e. stands-at (c .before .before .before .before .before .before .before .pre .flat-group) _ (omega (arith, n .0, c .before .before .before .loop .inv .below, c .before .before .before .loop .inv .above, c .before .before .before .loop .inv .inside)))
 
 larger-requires : tie.Need-larger-requires Inv-loop μ-loop
-larger-requires c κs = search needs
-
-add-i : tie.Need-add-i Inv-loop μ-loop
-add-i c = search needs
+larger-requires c κs = tt
 
 loop-less : tie.Need-loop-less Inv-loop μ-loop
-loop-less c = search needs
+loop-less c = let n = (rw (c .before .before .if1 .taken) at (c .before .before .before .left-next .ensures)) in omega (arith, n .0)
 
 loop-again : tie.Need-loop-again Inv-loop μ-loop
-loop-again c = (omega arith, omega (arith, greatest-more (sumAtStart (now (c .before .before .before .before .before .before .before .before .args .heights)) (now (c .before .before .before .before .before .before .before .before .args .widths)) (now (c .before .before .before .before .before .before .before .before .args .flat))) (c .before .before .before .before .loop .i), c .larger .ensures, c .before .row-sum .ensures .0), omega (arith, c .larger .ensures, c .before .row-sum .ensures .1))
+loop-again c = sweep-left (c .before .before .before .before .before .before .before .before .before .pre) (c .before .before .before .before .before .loop .inv) (rw (c .before .before .if1 .taken) at (c .before .before .before .left-next .ensures)) (c .before .start-sum .ensures .0) (c .before .start-sum .ensures .1) (c .larger .ensures)
+
+start-sum-requires-2 : tie.Need-start-sum-requires-2 Inv-loop μ-loop
+start-sum-requires-2 c κs = let n = (rw (c .if1 .left) at (c .before .left-next .ensures)) in ((stands-at (c .before .before .before .before .before .before .before .pre .flat-group) _ (omega (arith, n .0, c .before .before .before .loop .inv .above)), c .before .before .before .before .before .before .before .pre .widths-long), λ e. stands-at (c .before .before .before .before .before .before .before .pre .flat-group) _ (omega (arith, n .0, c .before .before .before .loop .inv .below, c .before .before .before .loop .inv .above)))
+
+larger-requires-2 : tie.Need-larger-requires-2 Inv-loop μ-loop
+larger-requires-2 c κs = tt
+
+add-high : tie.Need-add-high Inv-loop μ-loop
+add-high c = let n = (rw (c .before .before .if1 .left) at (c .before .before .before .left-next .ensures)) in omega (arith, n .0, c .before .before .before .before .before .before .before .before .before .pre .flat-group .few)
+
+loop-less-2 : tie.Need-loop-less-2 Inv-loop μ-loop
+loop-less-2 c = let n = (rw (c .before .before .if1 .left) at (c .before .before .before .left-next .ensures)) in omega (arith, n .0)
+
+loop-again-2 : tie.Need-loop-again-2 Inv-loop μ-loop
+loop-again-2 c = sweep-right (c .before .before .before .before .before .before .before .before .before .pre) (c .before .before .before .before .before .loop .inv) (rw (c .before .before .if1 .left) at (c .before .before .before .left-next .ensures)) (c .before .start-sum2 .ensures .0) (c .before .start-sum2 .ensures .1) (c .larger2 .ensures)
 
 returns : tie.Need-returns Inv-loop μ-loop
-returns c = let e : c .before .loop .i ≡ length (now (c .before .before .before .before .before .args .heights)) = omega arith in (rw e at (c .before .loop .inv .1), c .before .loop .inv .2)
+returns c = (sweep-done (c .before .before .before .before .before .pre) (c .before .loop .inv) (omega (arith, c .loop-test .left)), c .before .loop .inv .slim)
 
 pub group-width-spec : {M : Type 1} → statement M
 group-width-spec =
@@ -56,13 +64,17 @@ group-width-spec =
     Inv-loop
     μ-loop
     loop-holds
-    mul-t7
-    add-t9
-    mul-t10
-    shared-slice-read-t12
-    row-sum-requires
+    sub-loop
+    left-next-requires
+    sub-low
+    sub-start-sum
+    start-sum-requires
     larger-requires
-    add-i
     loop-less
     loop-again
+    start-sum-requires-2
+    larger-requires-2
+    add-high
+    loop-less-2
+    loop-again-2
     returns)

@@ -1,53 +1,23 @@
-use Prim.Native.Nat.{_+_, _-_, _≤_}
-use lib.ListN.{length}
-use Rattle.folding.specs.Legal.{mostStart}
-use Rattle.folding.specs.Inner.{endAt}
-use Rattle.folding.specs.Outline.{greatest}
-use Rattle.folding.proofs.Steps.{greatest-none, greatest-more}
+use Rattle.folding.proofs.Chains.{stands-at, top-ends}
 use native.Mathlib.Omega.{arith}
-use mathlib.Core.Path.{_≡_, sym}
-use denote.Ref.{now}
 use borrow.Author.Needs.{needs}
 use Rattle.folding.proofs.top.Statement.{statement}
 use Rattle.folding.proofs.top.Tie as tie
 
-abbrev Inv-loop : tie.InvT-loop
-Inv-loop heights flat t₀ i₀ t i = (i ≤ length heights) × (t ≡ greatest (endAt heights flat) i) × (t ≤ mostStart + 65535)
+sub-last : tie.Need-sub-last
+sub-last c = search needs
 
-abbrev μ-loop : tie.MeasureT-loop
-μ-loop heights flat t₀ i₀ t i = length heights - i
+end-at-requires : tie.Need-end-at-requires
+end-at-requires c κs = stands-at (c .before .before .pre .0) _ (omega (arith, c .before .before .pre .0 .some))
 
-loop-holds : tie.Need-loop-holds Inv-loop μ-loop
-loop-holds c = (omega arith, sym (greatest-none _), omega arith)
+end-at-requires-2 : tie.Need-end-at-requires-2
+end-at-requires-2 c κs = stands-at (c .before .before .before .pre .0) _ (omega (arith, c .before .before .before .pre .0 .some))
 
-end-at-requires : tie.Need-end-at-requires Inv-loop μ-loop
-end-at-requires c κs = (c .loop-test .taken, omega arith, omega arith, c .before .before .before .before .pre .2 (c .before .loop .i) (c .loop-test .taken))
-
-larger-requires : tie.Need-larger-requires Inv-loop μ-loop
+larger-requires : tie.Need-larger-requires
 larger-requires c κs = search needs
 
-add-i : tie.Need-add-i Inv-loop μ-loop
-add-i c = search needs
-
-loop-less : tie.Need-loop-less Inv-loop μ-loop
-loop-less c = search needs
-
-loop-again : tie.Need-loop-again Inv-loop μ-loop
-loop-again c = (omega arith, omega (arith, greatest-more (endAt (now (c .before .before .before .before .before .before .args .heights)) (now (c .before .before .before .before .before .before .args .flat))) (c .before .before .before .loop .i), c .larger .ensures, c .before .end-at .ensures .0), omega (arith, c .larger .ensures, c .before .end-at .ensures .1))
-
-returns : tie.Need-returns Inv-loop μ-loop
-returns c = let e : c .before .loop .i ≡ length (now (c .before .before .before .before .args .heights)) = omega arith in (rw e at (c .before .loop .inv .1), c .before .loop .inv .2)
+returns : tie.Need-returns
+returns c = (omega (arith, c .larger .ensures, c .before .before .end-at .ensures .0, c .before .end-at2 .ensures .0, top-ends (c .before .before .before .before .before .pre .0 .some) (c .before .before .before .before .before .pre .1 .0) (c .before .before .before .before .before .pre .1 .1)), omega (arith, c .larger .ensures, c .before .before .end-at .ensures .1, c .before .end-at2 .ensures .1))
 
 pub top-spec : {M : Type 1} → statement M
-top-spec =
-    tie.close
-    (tie.spec
-    Inv-loop
-    μ-loop
-    loop-holds
-    end-at-requires
-    larger-requires
-    add-i
-    loop-less
-    loop-again
-    returns)
+top-spec = tie.close (tie.spec sub-last end-at-requires end-at-requires-2 larger-requires returns)
