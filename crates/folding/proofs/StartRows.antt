@@ -12,7 +12,7 @@ use Rattle.terms.proofs.Bools.{either}
 use Rattle.folding.specs.declared.Placed.{Placed}
 use Rattle.folding.specs.Placement.{widthOf, startOf}
 use Rattle.folding.specs.Outline.{topOf, takes, rowSum, greatest, groupWidth}
-use Rattle.folding.specs.StartRows.{WidthAtStart}
+use Rattle.folding.specs.StartRows.{StartRow, WidthAtStart}
 use Rattle.folding.proofs.Rows.{takes-is, takes-of, row-most}
 
 -- The latest start among the components that take row r, and whether there is one.
@@ -56,14 +56,7 @@ sum-latest r s (x ∷ g) h k = go (takes x r) refl (λ m. sum-latest r s g m k) 
     go false e i m = omega (arith, i m)
 
 -- One of those components starts there.
-record StartsAt (g : List Placed) (s : ℕ) : Type 0 where
-  before : List Placed
-  component : Placed
-  behind : List Placed
-  of-group : g ≡ before ++ (component ∷ behind)
-  starts : startOf component ≡ s
-
-starts-later : (x : Placed) (g : List Placed) (s : ℕ) → StartsAt g s → StartsAt (x ∷ g) s
+starts-later : (x : Placed) (g : List Placed) (s : ℕ) → StartRow g s → StartRow (x ∷ g) s
 starts-later x g s t = record {
   before = x ∷ t .before;
   component = t .component;
@@ -72,19 +65,19 @@ starts-later x g s t = record {
   starts = t .starts;
 }
 
-starts-first : (x : Placed) (g : List Placed) (s : ℕ) → startOf x ≡ s → StartsAt (x ∷ g) s
+starts-first : (x : Placed) (g : List Placed) (s : ℕ) → startOf x ≡ s → StartRow (x ∷ g) s
 starts-first x g s e = record { before = []; component = x; behind = g; of-group = refl; starts = e }
 
-latest-starts : (r : ℕ) (g : List Placed) → taken r g ≡ true → StartsAt g (latest r g)
+latest-starts : (r : ℕ) (g : List Placed) → taken r g ≡ true → StartRow g (latest r g)
 unfolding taken latest
 latest-starts r [] e = absurd (false≢true e)
 latest-starts r (x ∷ g) e = go (takes x r) (either (taken r g)) (latest-starts r g) e
   where
-    later : (s : ℕ) → latest r g ≡ s → (taken r g ≡ true → StartsAt g (latest r g)) → taken r g ≡ true → StartsAt (x ∷ g) s
+    later : (s : ℕ) → latest r g ≡ s → (taken r g ≡ true → StartRow g (latest r g)) → taken r g ≡ true → StartRow (x ∷ g) s
     later s m i t = starts-later x g s (rw (← m) (i t))
 
-    go : (b : Bool) → (taken r g ≡ true) ⊎ (taken r g ≡ false) → (taken r g ≡ true → StartsAt g (latest r g)) → (b || taken r g) ≡ true
-        → StartsAt (x ∷ g) (cond b (max (startOf x) (latest r g)) (latest r g))
+    go : (b : Bool) → (taken r g ≡ true) ⊎ (taken r g ≡ false) → (taken r g ≡ true → StartRow g (latest r g)) → (b || taken r g) ≡ true
+        → StartRow (x ∷ g) (cond b (max (startOf x) (latest r g)) (latest r g))
     go true (inl t) i z = elim (decLe (startOf x) (latest r g)) [
       | yes h ↦ later _ (omega arith) i t
       | no h ↦ starts-first x g _ (omega arith)
@@ -109,7 +102,7 @@ greatest-at f (suc n) = elim (decLe (greatest f n) (f n)) [
 -- Where all sums are 0, so is that of the row where the first component starts.
 empty-row : (g : List Placed) → 0 < length g → groupWidth g ≡ 0 → WidthAtStart g
 empty-row [] h e = absurd (omega arith)
-empty-row (x ∷ l) h e = record { before = []; component = x; behind = l; of-group = refl; sum-is = omega (arith, row-most (x ∷ l) (startOf x)) }
+empty-row (x ∷ l) h e = record { row = startOf x; start = starts-first x l (startOf x) refl; sum-is = omega (arith, row-most (x ∷ l) (startOf x)) }
 
 -- In every group that is not empty some component's start row has the group's width as its sum.
 pub width-at-start : (g : List Placed) → 0 < length g → WidthAtStart g
@@ -117,15 +110,11 @@ width-at-start g h = go (greatest-at (rowSum g) (topOf g))
   where
     found : (r : ℕ) → rowSum g r ≡ groupWidth g → (taken r g ≡ true) ⊎ (taken r g ≡ false) → WidthAtStart g
     found r e (inr f) = empty-row g h (sym e ∙ none-taken r g f .0)
-    found r e (inl t) =
-        let s = latest-starts r g t in
-        record {
-          before = s .before;
-          component = s .component;
-          behind = s .behind;
-          of-group = s .of-group;
-          sum-is = rw (s .starts) (omega (arith, sum-latest r (latest r g) g (omega arith) (latest-le r g), row-most g (latest r g)));
-        }
+    found r e (inl t) = record {
+      row = latest r g;
+      start = latest-starts r g t;
+      sum-is = omega (arith, sum-latest r (latest r g) g (omega arith) (latest-le r g), row-most g (latest r g));
+    }
 
     go : (groupWidth g ≡ 0) ⊎ ((r : ℕ) × (rowSum g r ≡ groupWidth g)) → WidthAtStart g
     go (inl e) = empty-row g h e
