@@ -11,9 +11,8 @@ use Rattle.terms.specs.declared.Kind.{Kind}
 use Rattle.terms.specs.Answer.{Answer, refusal, result}
 use Rattle.terms.specs.Component.{componentsIn}
 use Rattle.stack.specs.File.{checkOf}
-use Rattle.stack.proofs.Reading.{Held}
+use Rattle.stack.proofs.Reading.{Held, components-held}
 use Rattle.folding.specs.declared.Outline.{Outline}
-use Rattle.folding.proofs.Measuring.{components-held}
 use Rattle.fold.specs.Calls.{foldChecks, validOf, Wanted, Searched, Answered, byHeight}
 use Rattle.plan.specs.Asks.{Plannable}
 use Rattle.best.specs.Asks.{Written}

@@ -13,10 +13,9 @@ use Rattle.terms.specs.declared.Kind.{Kind}
 use Rattle.terms.specs.Answer.{Answer, refusal, result}
 use Rattle.terms.specs.Component.{componentsIn, widthSum}
 use Rattle.stack.specs.File.{checkOf}
-use Rattle.stack.proofs.Reading.{Held}
+use Rattle.stack.proofs.Reading.{Held, components-held}
 use Rattle.folding.specs.declared.Outline.{Outline}
 use Rattle.folding.specs.Best.{Listing}
-use Rattle.folding.proofs.Measuring.{components-held}
 use Rattle.folding.proofs.Listings.{one-listing, few-listed}
 use Rattle.group.specs.Group.{none}
 use Rattle.model.specs.Outlines.{outlinesBy}

@@ -5,16 +5,9 @@ pub mod Rows
 pub mod StartRows
 pub mod Sides
 pub mod Pairs
-pub mod Apart
-pub mod Steps
-pub mod Placing
-pub mod Chains
-pub mod Sweep
-pub mod Walk
-pub mod Measuring
-pub mod Choosing
 pub mod Renumber
 pub mod Flat
+pub mod InLists
 pub mod WidthSum
 pub mod Cells
 pub mod Listings

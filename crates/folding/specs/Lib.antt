@@ -4,6 +4,6 @@ pub mod Outline
 pub mod StartRows
 pub mod Best
 pub mod Calls
-pub mod Inner
+pub mod Asks
 mod Examples
 mod Rivals

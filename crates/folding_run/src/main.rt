@@ -49,12 +49,12 @@ const SHORT: [u8; 19] = *b"STK\x01\x00\x02\x00\x02\x00\x04\x00\x07\x00\x03\x00\x
 
 fn plain_case(label: &[u8], kind: Kind, flat: &[u32]) {
     say(label);
-    say_line(folding::measure(&PLAIN, kind, flat));
+    say_line(measure::measure(&PLAIN, kind, flat));
 }
 
 fn gapped_case(label: &[u8], kind: Kind, flat: &[u32]) {
     say(label);
-    say_line(folding::measure(&GAPPED, kind, flat));
+    say_line(measure::measure(&GAPPED, kind, flat));
 }
 
 fn range_cases() {
@@ -230,7 +230,7 @@ fn nested_64() {
     let mut flat = [0u32; 192];
     number_groups(&mut flat, 64);
     say(b"64 nested");
-    say_line(folding::measure(&file, Kind::Nested, &flat));
+    say_line(measure::measure(&file, Kind::Nested, &flat));
 }
 
 fn apart_256() {
@@ -241,9 +241,9 @@ fn apart_256() {
     let mut flat = [0u32; 768];
     number_groups(&mut flat, 256);
     say(b"256 apart");
-    say_line(folding::measure(&file, Kind::Apart, &flat));
+    say_line(measure::measure(&file, Kind::Apart, &flat));
     say(b"256 nested");
-    say_line(folding::measure(&file, Kind::Nested, &flat));
+    say_line(measure::measure(&file, Kind::Nested, &flat));
 }
 
 // The size is refused before a component is looked at.
@@ -256,7 +256,7 @@ fn too_many() {
     file[5] = 1;
     file[6] = 1;
     say(b"257 apart");
-    say_line(folding::measure(&file, Kind::Apart, &[]));
+    say_line(measure::measure(&file, Kind::Apart, &[]));
 }
 
 fn nested_65() {
@@ -267,9 +267,9 @@ fn nested_65() {
     let mut flat = [0u32; 195];
     number_groups(&mut flat, 65);
     say(b"65 nested");
-    say_line(folding::measure(&file, Kind::Nested, &flat));
+    say_line(measure::measure(&file, Kind::Nested, &flat));
     say(b"65 apart");
-    say_line(folding::measure(&file, Kind::Apart, &flat));
+    say_line(measure::measure(&file, Kind::Apart, &flat));
 }
 
 fn say_list(list: &[u32]) {
@@ -283,7 +283,7 @@ fn say_list(list: &[u32]) {
 
 fn choose_case<'a>(label: &[u8], kind: Kind, first: &'a [u32], second: &'a [u32]) {
     say(label);
-    say_list(folding::choose(&GAPPED, kind, first, second));
+    say_list(measure::choose(&GAPPED, kind, first, second));
 }
 
 fn choose_cases() {
@@ -384,7 +384,7 @@ fn structs_case(label: &[u8], file: &[u8], kind: Kind, a: Placement, b: Placemen
         c.side,
         c.start,
     ];
-    say_measured(folding::measure(file, kind, &flat));
+    say_measured(measure::measure(file, kind, &flat));
     say(b"\n");
 }
 

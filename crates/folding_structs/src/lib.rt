@@ -62,7 +62,7 @@ fn measure_flat(file: &[u8], kind: Kind, flat: Flat) -> Measured
 {
     let n = flat.count;
     let numbers = flat.numbers;
-    folding::measure(file, kind, &numbers[..n])
+    measure::measure(file, kind, &numbers[..n])
 }
 
 pub fn measure_placements(file: &[u8], kind: Kind, placements: &[Placement]) -> Measured

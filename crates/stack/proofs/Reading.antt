@@ -10,9 +10,9 @@ use borrow.Author.Tests.{lt-ltb, le-ltb}
 use Rattle.terms.specs.declared.Component.{Component}
 use Rattle.terms.specs.declared.Kind.{Kind}
 use Rattle.terms.specs.Answer.{Answer, refusal, result, refuseIf, andThen}
-use Rattle.terms.proofs.Lists.{heightsOf, widthsOf, gapsOf, length-map}
+use Rattle.terms.proofs.Lists.{heightsOf, widthsOf, gapsOf, length-map, columns}
 use Rattle.stack.specs.File.{checkOf, componentsOf}
-use Rattle.terms.specs.Component.{countOf}
+use Rattle.terms.specs.Component.{countOf, componentsIn}
 use Rattle.stack.specs.Calls.{readOf, readInto, Read}
 use Rattle.stack.specs.Inner.{Fillable, Filled}
 use Rattle.terms.proofs.Answers.{counted, uncounted, most-256}
@@ -76,6 +76,9 @@ pub record Held (kind : Kind) (file : List ℕ) (n : ℕ) (heights widths gaps :
   pub in-heights : take n heights ≡ heightsOf components
   pub in-widths : take n widths ≡ widthsOf components
   pub in-gaps : take n gaps ≡ gapsOf components
+
+pub components-held : {kind : Kind} {file : List ℕ} {n : ℕ} {heights widths gaps : List ℕ} (h : Held kind file n heights widths gaps) → componentsIn (take n heights) (take n widths) (take n gaps) ≡ h .components
+components-held h = rw (h .in-heights, h .in-widths, h .in-gaps) (columns (h .components))
 
 module _ (kind : Kind) (file heights widths gaps : List ℕ) (h : length heights ≡ 256) (w : length widths ≡ 256) (g : length gaps ≡ 256) where
   room : readOf kind file (length heights) (length widths) (length gaps) ≡ checkOf kind file

@@ -154,7 +154,7 @@ pub extern "C" fn folds_write(
 pub extern "C" fn folds_measure(file: &[u8], nested: bool, placements: &[u32]) -> Extent
     ensures { λ r. ⌜ r ≡ outlineCode (measureOf (kindOf nested) (now (file .entry)) (now (placements .entry))) ⌝ }
 {
-    measured(folding::measure(file, kind_of(nested), placements))
+    measured(measure::measure(file, kind_of(nested), placements))
 }
 
 fn choice(w: Winner) -> u32
@@ -176,9 +176,9 @@ pub extern "C" fn folds_choose(file: &[u8], nested: bool, first: &[u32], second:
         ≡ chooseOf (kindOf nested) (now (file .entry)) (now (first .entry)) (now (second .entry)) ⌝ }
 {
     let kind = kind_of(nested);
-    let a = folding::measure(file, kind, first);
-    let b = folding::measure(file, kind, second);
-    choice(folding::better(a, b))
+    let a = measure::measure(file, kind, first);
+    let b = measure::measure(file, kind, second);
+    choice(measure::better(a, b))
 }
 
 #[no_mangle]

@@ -154,14 +154,14 @@ fn to_height(file: &[u8], kind: Kind, limit: u32, width: u32, height: u32) -> bo
     let mut placements = [4000000000u32; 36];
     let mut work = [7u32; LEAST_WORK];
     let a = fold::to_height(file, kind, Rows(limit), &mut placements, &mut work);
-    is(a, width, height) && is(folding::measure(file, kind, &placements), width, height)
+    is(a, width, height) && is(measure::measure(file, kind, &placements), width, height)
 }
 
 fn to_width(file: &[u8], kind: Kind, limit: u32, width: u32, height: u32) -> bool {
     let mut placements = [4000000000u32; 36];
     let mut work = [7u32; LEAST_WORK];
     let a = fold::to_width(file, kind, Slices(limit), &mut placements, &mut work);
-    is(a, width, height) && is(folding::measure(file, kind, &placements), width, height)
+    is(a, width, height) && is(measure::measure(file, kind, &placements), width, height)
 }
 
 fn no_height(file: &[u8], kind: Kind, limit: u32) -> bool {
@@ -292,7 +292,7 @@ fn smallest_area(file: &[u8], kind: Kind, width: u32, height: u32) -> bool {
     let mut placements = [4000000000u32; 36];
     let mut work = [7u32; LEAST_WORK];
     let a = fold_area::smallest_area(file, kind, &mut placements, &mut work);
-    is(a, width, height) && is(folding::measure(file, kind, &placements), width, height)
+    is(a, width, height) && is(measure::measure(file, kind, &placements), width, height)
 }
 
 fn area_case(file: &[u8], kind: Kind, table: &[u32]) -> bool {
