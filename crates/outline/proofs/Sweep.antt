@@ -13,7 +13,7 @@ use borrow.Author.Tests.{leb-true, leb-false, ltb-true, lt-ltb, le-ltb, le-leb, 
 use Rattle.terms.proofs.Tabulate.{tabulate-length}
 use Rattle.folding.specs.Outline.{topOf, rowSum}
 use Rattle.folding.specs.Asks.{placedAt, placedIn, startAt, endAt}
-use Rattle.outline.specs.Inner.{shareAt, sumAtStart, mostWidth, NextStart, Wide, WidthIs}
+use Rattle.outline.specs.Inner.{shareAt, sumAtStart, mostWidth, Chains, NextStart, GroupWide, WidthIs}
 use Rattle.folding.proofs.Sums.{total, total-none, total-more, total-le, total-grows, total-same}
 use Rattle.folding.proofs.Rows.{greatest-le, row-most}
 use Rattle.folding.proofs.StartRows.{width-at-start}
@@ -90,12 +90,12 @@ pub record Swept (hs ws flat : List ℕ) (k low high width : ℕ) : Type 0 where
   pub peak : Peak (sumOf hs ws flat low high) width
   pub slim : width ≤ mostWidth
 
-module _ {hs ws flat : List ℕ} {k : ℕ} (v : Wide hs ws flat k) where
+module _ {hs ws flat : List ℕ} {k : ℕ} (v : GroupWide hs ws flat) (sides : Chains hs flat k) where
   pub sweep-start : Swept hs ws flat k k k 0
   sweep-start = record {
     below = omega arith;
     above = omega arith;
-    inside = v .chains .within;
+    inside = sides .within;
     under-left = λ h j a b. absurd (omega arith);
     under-right = λ h j a b. absurd (omega arith);
     peak = record { most = λ row. omega arith; row = 0; reached = omega arith };
@@ -138,7 +138,7 @@ module _ {hs ws flat : List ℕ} {k : ℕ} (v : Wide hs ws flat k) where
       below = omega (arith, p .below);
       above = p .above;
       inside = p .inside;
-      under-left = λ h j a b. let c = v .chains .falls (low - 1 - 1) (low - 1) (omega (arith, n .0)) (omega (arith, n .0, p .below)) in elim (decLt j low) [
+      under-left = λ h j a b. let c = sides .falls (low - 1 - 1) (low - 1) (omega (arith, n .0)) (omega (arith, n .0, p .below)) in elim (decLt j low) [
         | yes l ↦ let z : j ≡ low - 1 = omega arith in rw z (omega arith)
         | no l ↦ omega (arith, p .under-left (n .0) j (omega arith) b)
       ];
@@ -146,15 +146,15 @@ module _ {hs ws flat : List ℕ} {k : ℕ} (v : Wide hs ws flat k) where
         | yes l ↦ let z : j ≡ low - 1 = omega arith in rw z (n .1 h)
         | no l ↦ p .under-right h j (omega arith) b
       ];
-      peak = rw (m ∙ ap (max width) (e ∙ ap (λ (x : ℕ). getD ws (low - 1) 0 + x) (sym others))) (joins (low - 1) (omega (arith, n .0, p .below, v .chains .within)) (p .under-left (n .0)) (sumOf hs ws flat (low - 1) high) more);
+      peak = rw (m ∙ ap (max width) (e ∙ ap (λ (x : ℕ). getD ws (low - 1) 0 + x) (sym others))) (joins (low - 1) (omega (arith, n .0, p .below, sides .within)) (p .under-left (n .0)) (sumOf hs ws flat (low - 1) high) more);
       slim = omega (arith, p .slim);
     }
       where
         others : sumOf hs ws flat low high (startAt flat (low - 1)) ≡ cond (ltb k high) (shareAt hs ws flat (startAt flat (low - 1)) (high - 1)) 0
         others = across (startAt flat (low - 1)) (high - 1) (ltb k high) (λ z. let l = ltb-true k high z in (omega (arith, p .below), omega arith)) (λ j a b other. elim (decLt j k) [
-          | yes l ↦ v .chains .falls (low - 1) j (omega (arith, n .0)) l
+          | yes l ↦ sides .falls (low - 1) j (omega (arith, n .0)) l
           | no l ↦ elim (decLt j (high - 1)) [
-            | yes d ↦ omega (arith, v .chains .rises j (high - 1) (omega arith) d (omega (arith, p .inside)), p .under-left (n .0) (high - 1) (omega arith) (omega arith))
+            | yes d ↦ omega (arith, sides .rises j (high - 1) (omega arith) d (omega (arith, p .inside)), p .under-left (n .0) (high - 1) (omega arith) (omega arith))
             | no d ↦ absurd (other (lt-ltb k high (omega arith)) (omega arith))
           ]
         ])
@@ -172,7 +172,7 @@ module _ {hs ws flat : List ℕ} {k : ℕ} (v : Wide hs ws flat k) where
         | yes l ↦ p .under-left h j a l
         | no l ↦ let z : j ≡ high = omega arith in rw z (n .1 h)
       ];
-      under-right = λ h j a b. let c = v .chains .rises high (high + 1) (p .above) (omega arith) h in elim (decLt j high) [
+      under-right = λ h j a b. let c = sides .rises high (high + 1) (p .above) (omega arith) h in elim (decLt j high) [
         | yes l ↦ omega (arith, p .under-right (n .0) j a l)
         | no l ↦ let z : j ≡ high = omega arith in rw z (omega arith)
       ];
@@ -183,10 +183,10 @@ module _ {hs ws flat : List ℕ} {k : ℕ} (v : Wide hs ws flat k) where
         others : sumOf hs ws flat low high (startAt flat high) ≡ cond (ltb low k) (shareAt hs ws flat (startAt flat high) low) 0
         others = across (startAt flat high) low (ltb low k) (λ z. let l = ltb-true low k z in (omega arith, omega (arith, p .above))) (λ j a b other. elim (decLt j k) [
           | yes l ↦ elim (decLt low j) [
-            | yes d ↦ omega (arith, v .chains .falls low j d l, p .under-right (n .0) low (omega arith) (omega arith))
+            | yes d ↦ omega (arith, sides .falls low j d l, p .under-right (n .0) low (omega arith) (omega arith))
             | no d ↦ absurd (other (lt-ltb low k (omega arith)) (omega arith))
           ]
-          | no l ↦ v .chains .rises j high (omega arith) b (n .0)
+          | no l ↦ sides .rises j high (omega arith) b (n .0)
         ])
 
         more : (row : ℕ) → sumOf hs ws flat low (high + 1) row ≡ sumOf hs ws flat low high row + shareAt hs ws flat row high

@@ -97,24 +97,26 @@ module _ {hs ws gs flat : List ℕ} (v : Legalised hs ws gs flat) where
     group-in =
         let l = long from to (e .some) (e .within) in
         record {
-          flat-group = record {
-            some = omega (arith, e .some);
-            few = omega (arith, v .stack .few, e .within);
-            flat-long = omega (arith, l, part-length (3 * from) (3 * to) flat (omega (arith, e .some)) (omega (arith, v .flat-long, e .within)));
-            low = λ j h.
+          wide = record {
+            flat-group = record {
+              some = omega (arith, e .some);
+              few = omega (arith, v .stack .few, e .within);
+              flat-long = omega (arith, l, part-length (3 * from) (3 * to) flat (omega (arith, e .some)) (omega (arith, v .flat-long, e .within)));
+              low = λ j h.
+                  let h′ : j < to - from = omega (arith, l) in
+                  rw (flat-at from to (e .some) (e .within) j 2 h′ (omega arith)) (legal-low g (length hs) (v .is-legal .0) (v .is-legal .1) (from + j) (omega (arith, e .within)));
+              first-left =
+                  flat-at from to (e .some) (e .within) 0 1 (omega (arith, e .some)) (omega arith)
+                  ∙ ap (λ (m : ℕ). getD flat m 0) (omega arith)
+                  ∙ w .opens (omega (arith, e .some, e .within));
+              beside = λ j h. beside-at from to (e .some) (e .within) (e .same) j (omega (arith, l));
+            };
+            widths-long = part-length from to ws (omega (arith, e .some)) (omega (arith, v .stack .widths-long, e .within)) ∙ sym l;
+            tall = λ j h.
                 let h′ : j < to - from = omega (arith, l) in
-                rw (flat-at from to (e .some) (e .within) j 2 h′ (omega arith)) (legal-low g (length hs) (v .is-legal .0) (v .is-legal .1) (from + j) (omega (arith, e .within)));
-            first-left =
-                flat-at from to (e .some) (e .within) 0 1 (omega (arith, e .some)) (omega arith)
-                ∙ ap (λ (m : ℕ). getD flat m 0) (omega arith)
-                ∙ w .opens (omega (arith, e .some, e .within));
-            beside = λ j h. beside-at from to (e .some) (e .within) (e .same) j (omega (arith, l));
+                rw (part-at from to j hs h′) (v .stack .tall (from + j) (omega (arith, e .within)));
           };
-          widths-long = part-length from to ws (omega (arith, e .some)) (omega (arith, v .stack .widths-long, e .within)) ∙ sym l;
           gaps-long = part-length from to gs (omega (arith, e .some)) (omega (arith, v .stack .gaps-long, e .within)) ∙ sym l;
-          tall = λ j h.
-              let h′ : j < to - from = omega (arith, l) in
-              rw (part-at from to j hs h′) (v .stack .tall (from + j) (omega (arith, e .within)));
         }
 
     groups : groupsOf (drop from (placedIn hs ws gs flat)) ≡ mine from to (e .some) (e .within) ∷ groupsOf (drop to (placedIn hs ws gs flat))

@@ -73,10 +73,9 @@ abbrev pub NextStart : List ℕ → ℕ → ℕ → ℕ → Bool → Type 0
 NextStart flat n low high true = (0 < low) × (high < n → startAt flat (low - 1) ≤ startAt flat high)
 NextStart flat n low high false = (high < n) × (0 < low → startAt flat high ≤ startAt flat (low - 1))
 
--- A group whose width is asked for.
-pub record Wide (hs ws flat : List ℕ) (k : ℕ) : Type 0 where
+-- A group with its widths.
+pub record GroupWide (hs ws flat : List ℕ) : Type 0 where
   pub flat-group : GroupFlat hs flat
-  pub chains : Chains hs flat k
   pub widths-long : length ws ≡ length hs
   pub tall : (i : ℕ) → i < length hs → 0 < getD hs i 0
 
@@ -88,11 +87,10 @@ WidthIs hs ws flat width = (gs : List ℕ) → (width ≡ groupWidth (placedIn h
 abbrev pub HeightIs : ℕ → List ℕ → List ℕ → List ℕ → ℕ → Type 0
 HeightIs g0 hs gs flat height = (ws : List ℕ) → height ≡ groupHeight g0 (placedIn hs ws gs flat)
 
+-- And with its gaps.
 pub record GroupIn (hs ws gs flat : List ℕ) : Type 0 where
-  pub flat-group : GroupFlat hs flat
-  pub widths-long : length ws ≡ length hs
+  pub wide : GroupWide hs ws flat
   pub gaps-long : length gs ≡ length hs
-  pub tall : (i : ℕ) → i < length hs → 0 < getD hs i 0
 
 -- The width and the height of a group behind the gap g0.
 pub record GroupOutlined (g0 : ℕ) (hs ws gs flat : List ℕ) (o : Outline) : Type 0 where

@@ -8,7 +8,7 @@ ghost use Rattle.folding.specs.Legal.{mostStart};
 ghost use Rattle.folding.specs.Outline.{greatest};
 ghost use Rattle.folding.specs.Asks.{placedIn, endAt, outlineIn, Legalised};
 ghost use Rattle.outline.specs.Inner.{shareAt, sumAtStart, mostWidth, StandsAt, GroupEnd, Lefts, GroupFlat, Chains};
-ghost use Rattle.outline.specs.Inner.{NextStart, Wide, WidthIs, HeightIs, GroupIn, GroupOutlined};
+ghost use Rattle.outline.specs.Inner.{NextStart, GroupWide, WidthIs, HeightIs, GroupIn, GroupOutlined};
 use folding::Outline;
 use numbers::larger;
 use numbers::wide;
@@ -120,7 +120,7 @@ fn left_next(flat: &[u32], n: usize, low: usize, high: usize) -> bool
 // The greatest row sum of a group with k components on the left. It occurs at a row where a component starts, so one row is
 // summed for each, lowest first: back along the left side and on along the right one, as two sorted lists are merged.
 fn group_width(heights: &[u16], widths: &[u16], flat: &[u32], k: usize) -> Slices
-    requires { ⌜ Wide (now heights) (now widths) (now flat) k ⌝ }
+    requires { ⌜ GroupWide (now heights) (now widths) (now flat) × Chains (now heights) (now flat) k ⌝ }
     ensures { λ r. ⌜ WidthIs (now (heights .entry)) (now (widths .entry)) (now (flat .entry)) (r .0) ⌝ }
     ensures { λ r. ⌜ r .0 ≤ mostWidth ⌝ }
 {

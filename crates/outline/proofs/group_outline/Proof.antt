@@ -8,10 +8,10 @@ lefts-requires : tie.Need-lefts-requires
 lefts-requires c κs = search needs
 
 group-width-requires : tie.Need-group-width-requires
-group-width-requires c κs = record { flat-group = c .before .before .before .before .before .pre .0 .flat-group; chains = chains-of (c .before .before .before .before .before .pre .0 .flat-group) (c .lefts .ensures); widths-long = c .before .before .before .before .before .pre .0 .widths-long; tall = c .before .before .before .before .before .pre .0 .tall }
+group-width-requires c κs = (c .before .before .before .before .before .pre .0 .wide, chains-of (c .before .before .before .before .before .pre .0 .wide .flat-group) (c .lefts .ensures))
 
 group-height-requires : tie.Need-group-height-requires
-group-height-requires c κs = ((c .before .before .before .before .before .before .pre .0 .flat-group, c .before .before .before .before .before .before .pre .0 .gaps-long), (c .before .lefts .ensures, c .before .before .before .before .before .before .pre .1))
+group-height-requires c κs = ((c .before .before .before .before .before .before .pre .0 .wide .flat-group, c .before .before .before .before .before .before .pre .0 .gaps-long), (c .before .lefts .ensures, c .before .before .before .before .before .before .pre .1))
 
 returns : tie.Need-returns
 returns c = record { width-is = c .before .group-width .ensures .0 (now (c .before .before .before .before .before .before .before .args .gaps)) .0; height-is = c .group-height .ensures (now (c .before .before .before .before .before .before .before .args .widths)); slim = c .before .group-width .ensures .1 }
