@@ -105,7 +105,9 @@ fn measured(caller: &mut Caller) -> Compared<()> {
         let most_lift = HIGHEST.saturating_sub(stack::total(&stack) + 2 * count as u32);
         let lift = if at / 2 % 4 == 1 { most_lift } else { 0 };
         let folding = damage::random_folding(&mut caller.rng, &stack, nested, count, lift);
-        caller.measure(&stack::file(&stack), nested, &folding).map_err(told(&stack, nested))?;
+        same("the folding is legal", measure::outline(&stack, nested, &folding).is_some(), true)
+            .and_then(|()| caller.measure(&stack::file(&stack), nested, &folding))
+            .map_err(told(&stack, nested))?;
     }
     Ok(())
 }
