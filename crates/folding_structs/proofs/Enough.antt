@@ -20,7 +20,7 @@ use Rattle.stack.proofs.Valid.{valid}
 use Rattle.folding.specs.declared.Placement.{Placement}
 use Rattle.folding.specs.Placement.{placementAt, placementsOf}
 use Rattle.folding.specs.Calls.{measureIn, measureOf}
-use Rattle.folding_structs.specs.Flat.{none}
+use Rattle.folding_structs.proofs.Lists.{none}
 use Rattle.folding.specs.Placement.{flatOf}
 use Rattle.folding.proofs.Flat.{flat-length}
 

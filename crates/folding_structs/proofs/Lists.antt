@@ -1,4 +1,4 @@
--- The flat numbers in the buffer, placement after placement.
+-- The flat numbers, placement after placement.
 use mathlib.Core.Path.{_≡_, _∙_, ap}
 use Prim.Native.Nat.{ℕ, suc, _+_, _≤_, _<_}
 use native.Mathlib.Omega.{arith}
@@ -6,9 +6,12 @@ use mathlib.Core.List.{List, [], _∷_, _++_, append-assoc}
 use lib.ListN.{length, take, set, getD, length-set}
 use lib.Seq.{take-suc, take-suc-set}
 use Rattle.folding.specs.declared.Placement.{Placement}
-use Rattle.folding_structs.specs.Flat.{none}
 use Rattle.folding.specs.Placement.{flatOf}
 use Rattle.folding.proofs.Flat.{flat-append}
+
+-- Where an entry is asked for past the end of a list.
+abbrev pub none : Placement
+none = record { group = 0; side = 0; start = 0 }
 
 one : (a : List ℕ) (n m x : ℕ) → m ≡ suc n → n < length a → take m (set a n x) ≡ take n a ++ (x ∷ [])
 one a n m x e h = ap (λ (k : ℕ). take k (set a n x)) e ∙ take-suc-set a n x h

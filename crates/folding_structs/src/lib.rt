@@ -2,9 +2,9 @@
 ghost use mathlib.Core.Path.{_≡_};
 ghost use mathlib.Core.List.{[], _∷_, _++_};
 ghost use Prim.Native.Nat.{_+_, _*_, _≤_, _<_, min};
+ghost use lib.ListN.{length, take};
 ghost use Rattle.terms.specs.Numbers.{mostApart};
 ghost use Rattle.folding.specs.Calls.{measuredAnswer, measureOf};
-ghost use Rattle.folding_structs.specs.Flat.{held};
 ghost use Rattle.folding.specs.Placement.{flatOf};
 use folding::Measured;
 use folding::Placement;
@@ -13,12 +13,6 @@ use terms::MOST_APART;
 
 // Room for the placements of the longest stack.
 const NUMBERS: usize = 3 * MOST_APART;
-
-// The first `count` of the numbers.
-struct Flat {
-    numbers: [u32; NUMBERS],
-    count: usize,
-}
 
 // How many placements are read: no stack has more components.
 fn at_most(len: usize) -> usize
@@ -30,50 +24,39 @@ fn at_most(len: usize) -> usize
     MOST_APART
 }
 
-fn empty() -> Flat
-    ensures { λ r. ⌜ r .count ≡ 0 ⌝ }
-{
-    let numbers = [0; NUMBERS];
-    Flat {
-        numbers: numbers,
-        count: 0,
-    }
+// What it holds at first is not read.
+fn empty() -> [u32; NUMBERS] {
+    [0; NUMBERS]
 }
 
-fn push(flat: Flat, p: Placement) -> Flat
-    requires { ⌜ flat .count + 3 ≤ 3 * mostApart ⌝ }
-    ensures { λ r. ⌜ (r .count ≡ flat .count + 3)
-        × (held r ≡ held flat ++ (p .group ∷ p .side ∷ p .start ∷ [])) ⌝ }
+// Placement i as flat numbers, behind those of the others before it.
+fn put(numbers: &mut [u32], i: usize, p: Placement)
+    requires { ⌜ (3 * i + 3 ≤ length (now numbers)) × (i < mostApart) ⌝ }
+    ensures { λ _. ⌜ take (3 * i + 3) (now (numbers .exit))
+        ≡ take (3 * i) (now (numbers .entry)) ++ (p .group ∷ p .side ∷ p .start ∷ []) ⌝ }
 {
-    let n = flat.count;
-    let mut numbers = flat.numbers;
-    numbers[n] = p.group;
-    numbers[n + 1] = p.side;
-    numbers[n + 2] = p.start;
-    Flat {
-        numbers: numbers,
-        count: n + 3,
-    }
+    numbers[3 * i] = p.group;
+    numbers[3 * i + 1] = p.side;
+    numbers[3 * i + 2] = p.start;
 }
 
-fn measure_flat(file: &[u8], kind: Kind, flat: Flat) -> Measured
-    requires { ⌜ flat .count ≤ 3 * mostApart ⌝ }
-    ensures { λ r. ⌜ measuredAnswer r ≡ measureOf kind (now (file .entry)) (held flat) ⌝ }
+fn measure_flat(file: &[u8], kind: Kind, numbers: [u32; NUMBERS], n: usize) -> Measured
+    requires { ⌜ n ≤ mostApart ⌝ }
+    ensures { λ r. ⌜ measuredAnswer r ≡ measureOf kind (now (file .entry)) (take (3 * n) numbers) ⌝ }
 {
-    let n = flat.count;
-    let numbers = flat.numbers;
-    measure::measure(file, kind, &numbers[..n])
+    let end = 3 * n;
+    measure::measure(file, kind, &numbers[..end])
 }
 
 pub fn measure_placements(file: &[u8], kind: Kind, placements: &[Placement]) -> Measured
     ensures { λ r. ⌜ measuredAnswer r ≡ measureOf kind (now (file .entry)) (flatOf (now (placements .entry))) ⌝ }
 {
     let n = at_most(placements.len());
-    let mut flat = empty();
+    let mut numbers = empty();
     let mut i: usize = 0;
     while i < n {
-        flat = push(flat, placements[i]);
+        put(&mut numbers, i, placements[i]);
         i = i + 1;
     }
-    measure_flat(file, kind, flat)
+    measure_flat(file, kind, numbers, n)
 }
