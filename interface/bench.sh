@@ -2,7 +2,8 @@
 # Times both folds and the table next to document 001's own method, the smallest area and measuring, some three minutes;
 # prints the tables of docs/PERFORMANCE.md, and a line to standard error as each row is done.
 #
-#   interface/bench.sh [--renew] [--keep FILE] [--measure]
+#   interface/bench.sh [--renew] [--keep FILE]
+#   interface/bench.sh --measure
 #
 # The picture goes to target/performance.svg; with --renew it goes to docs/performance.svg instead. With --keep the run's
 # figures go to FILE. With --measure measuring alone is timed, which takes a second. Figures that were kept as
@@ -12,17 +13,20 @@ set -euo pipefail
 picture=target/performance.svg
 keep=()
 alone=()
+if [ "$*" = --measure ]; then
+    alone=(--measure)
+    shift
+fi
 while [ $# -gt 0 ]; do
     case "$1" in
         --renew) picture=docs/performance.svg; shift ;;
-        --measure) alone=(--measure); shift ;;
         --keep)
             : "${2:?--keep needs a file}"
             mkdir -p "$(dirname "$2")" # the run would be lost if this failed behind it
             keep=(--keep "$(realpath -m "$2")")
             shift 2
             ;;
-        *) echo "usage: interface/bench.sh [--renew] [--keep FILE] [--measure]" >&2; exit 2 ;;
+        *) echo "usage: interface/bench.sh [--renew] [--keep FILE] | --measure" >&2; exit 2 ;;
     esac
 done
 source "$(dirname "${BASH_SOURCE[0]}")/library.sh"

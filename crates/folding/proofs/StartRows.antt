@@ -11,8 +11,9 @@ use lib.ListN.{length}
 use Rattle.terms.proofs.Bools.{either}
 use Rattle.folding.specs.declared.Placed.{Placed}
 use Rattle.folding.specs.Placement.{widthOf, startOf}
-use Rattle.folding.specs.Outline.{topOf, takes, rowSum, greatest, groupWidth}
-use Rattle.folding.specs.StartRows.{StartRow, WidthAtStart}
+use Rattle.folding.specs.Legal.{sameGroup}
+use Rattle.folding.specs.Outline.{joined, groupsOf, topOf, takes, rowSum, greatest, groupWidth}
+use Rattle.folding.specs.StartRows.{StartRow, WidthAtStart, AllAtStart}
 use Rattle.folding.proofs.Rows.{takes-is, takes-of, row-most}
 
 -- The latest start among the components that take row r, and whether there is one.
@@ -102,7 +103,7 @@ greatest-at f (suc n) = elim (decLe (greatest f n) (f n)) [
 -- Where all sums are 0, so is that of the row where the first component starts.
 empty-row : (g : List Placed) → 0 < length g → groupWidth g ≡ 0 → WidthAtStart g
 empty-row [] h e = absurd (omega arith)
-empty-row (x ∷ l) h e = record { row = startOf x; start = starts-first x l (startOf x) refl; sum-is = omega (arith, row-most (x ∷ l) (startOf x)) }
+empty-row (x ∷ l) h e = record { row = startOf x; start = starts-first x l (startOf x) refl; sum-is = omega (arith, row-most (x ∷ l) (startOf x), row-most (x ∷ l) 0) }
 
 -- In every group that is not empty some component's start row has the group's width as its sum.
 pub width-at-start : (g : List Placed) → 0 < length g → WidthAtStart g
@@ -119,3 +120,18 @@ width-at-start g h = go (greatest-at (rowSum g) (topOf g))
     go : (groupWidth g ≡ 0) ⊎ ((r : ℕ) × (rowSum g r ≡ groupWidth g)) → WidthAtStart g
     go (inl e) = empty-row g h e
     go (inr e) = found (e .0) (e .1) (either (taken (e .0) g))
+
+-- So has every group of a folding: none is empty.
+pub all-at-start : (l : List Placed) → AllAtStart (groupsOf l)
+unfolding groupsOf
+all-at-start [] = tt
+all-at-start (x ∷ l) = joins (groupsOf l) (all-at-start l)
+  where
+    joins : (gs : List (List Placed)) → AllAtStart gs → AllAtStart (joined x gs)
+    joins [] t = (width-at-start (x ∷ []) (omega arith), tt)
+    joins ([] ∷ gs) t = (width-at-start (x ∷ []) (omega arith), t .1)
+    joins ((y ∷ g) ∷ gs) t = pick (sameGroup x y)
+      where
+        pick : (b : Bool) → AllAtStart (cond b ((x ∷ y ∷ g) ∷ gs) ((x ∷ []) ∷ (y ∷ g) ∷ gs))
+        pick true = (width-at-start (x ∷ y ∷ g) (omega arith), t .1)
+        pick false = (width-at-start (x ∷ []) (omega arith), t)

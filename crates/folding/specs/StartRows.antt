@@ -1,7 +1,7 @@
 -- Where a group is as wide as its width (document 02, ticket 2).
 use Prim.Native.Nat.{ℕ}
 use mathlib.Core.Path.{_≡_}
-use mathlib.Core.List.{List, _∷_, _++_}
+use mathlib.Core.List.{List, [], _∷_, _++_}
 use Rattle.folding.specs.declared.Placed.{Placed}
 use Rattle.folding.specs.Placement.{startOf}
 use Rattle.folding.specs.Outline.{rowSum, groupWidth}
@@ -19,3 +19,7 @@ pub record WidthAtStart (g : List Placed) : Type 0 where
   pub row : ℕ
   pub start : StartRow g row
   pub sum-is : rowSum g row ≡ groupWidth g
+
+abbrev pub AllAtStart : List (List Placed) → Type 0
+AllAtStart [] = Unit {0}
+AllAtStart (g ∷ gs) = WidthAtStart g × AllAtStart gs

@@ -49,7 +49,7 @@ module _ (g : ℕ → Placed) (n : ℕ) where
     legal-first h = legal-is kind (g 0 ∷ drop 1 (tabulate g n)) (rw (tabulate-drop g n 0 h) at e) .1
 
     -- How a component may follow the one before it.
-    pub legal-next : (i : ℕ) → i + 1 < n → Next (g i) (g (i + 1))
+    legal-next : (i : ℕ) → i + 1 < n → Next (g i) (g (i + 1))
     legal-next i h =
         let r = legal-holds kind (tabulate g n) e in
         rw add-one

@@ -10,13 +10,11 @@ use native.Mathlib.Omega.{arith}
 use lib.ListN.{length, getD}
 use lib.Dec.{leb, ltb}
 use borrow.Author.Tests.{leb-true, leb-false, ltb-true, lt-ltb, le-ltb, le-leb, lt-leb}
-use Rattle.terms.proofs.Tabulate.{tabulate-length}
 use Rattle.folding.specs.Outline.{topOf, rowSum}
 use Rattle.folding.specs.Asks.{placedAt, placedIn, startAt, endAt}
 use Rattle.outline.specs.Inner.{shareAt, sumAtStart, mostWidth, Chains, NextStart, GroupWide, WidthIs}
 use Rattle.folding.proofs.Sums.{total, total-none, total-more, total-le, total-grows, total-same}
 use Rattle.folding.proofs.Rows.{greatest-le, row-most}
-use Rattle.folding.proofs.StartRows.{width-at-start}
 use Rattle.outline.proofs.Placing.{sum-tabulate}
 
 -- w is the greatest of the sums f of all rows.
@@ -77,8 +75,8 @@ lower-next flat n low high h l = go (leb (startAt flat (low - 1)) (startAt flat 
     go false e = (l, λ m. omega (arith, leb-false (startAt flat (low - 1)) (startAt flat high) e))
 
 -- The sum of a row, of the components from low up to high.
-abbrev pub sumOf : List ℕ → List ℕ → List ℕ → ℕ → ℕ → ℕ → ℕ
-sumOf hs ws flat low high row = total (shareAt hs ws flat row) high - total (shareAt hs ws flat row) low
+abbrev pub startedSum : List ℕ → List ℕ → List ℕ → ℕ → ℕ → ℕ → ℕ
+startedSum hs ws flat low high row = total (shareAt hs ws flat row) high - total (shareAt hs ws flat row) low
 
 -- The walk so far. None that has started starts above one that has not.
 pub record Swept (hs ws flat : List ℕ) (k low high width : ℕ) : Type 0 where
@@ -87,7 +85,7 @@ pub record Swept (hs ws flat : List ℕ) (k low high width : ℕ) : Type 0 where
   pub inside : high ≤ length hs
   pub under-left : 0 < low → (j : ℕ) → low ≤ j → j < high → startAt flat j ≤ startAt flat (low - 1)
   pub under-right : high < length hs → (j : ℕ) → low ≤ j → j < high → startAt flat j ≤ startAt flat high
-  pub peak : Peak (sumOf hs ws flat low high) width
+  pub peak : Peak (startedSum hs ws flat low high) width
   pub slim : width ≤ mostWidth
 
 module _ {hs ws flat : List ℕ} {k : ℕ} (v : GroupWide hs ws flat) (sides : Chains hs flat k) where
@@ -104,10 +102,10 @@ module _ {hs ws flat : List ℕ} {k : ℕ} (v : GroupWide hs ws flat) (sides : C
 
   module _ {low high width : ℕ} (p : Swept hs ws flat k low high width) where
     -- Component i starts above all that have started.
-    joins : (i : ℕ) → i < length hs → ((j : ℕ) → low ≤ j → j < high → startAt flat j ≤ startAt flat i) → (f : ℕ → ℕ) → ((row : ℕ) → f row ≡ sumOf hs ws flat low high row + shareAt hs ws flat row i)
-        → Peak f (max width (getD ws i 0 + sumOf hs ws flat low high (startAt flat i)))
+    joins : (i : ℕ) → i < length hs → ((j : ℕ) → low ≤ j → j < high → startAt flat j ≤ startAt flat i) → (f : ℕ → ℕ) → ((row : ℕ) → f row ≡ startedSum hs ws flat low high row + shareAt hs ws flat row i)
+        → Peak f (max width (getD ws i 0 + startedSum hs ws flat low high (startAt flat i)))
     joins i h under f same =
-        peak-more (sumOf hs ws flat low high) f (λ row. shareAt hs ws flat row i) width (startAt flat i) (getD ws i 0) same
+        peak-more (startedSum hs ws flat low high) f (λ row. shareAt hs ws flat row i) width (startAt flat i) (getD ws i 0) same
         (share-before hs ws flat i) (share-most hs ws flat i) (share-inside hs ws flat i (startAt flat i) (omega arith) (omega (arith, v .tall i h)))
         (λ row l. omega (
           arith,
@@ -117,7 +115,7 @@ module _ {hs ws flat : List ℕ} {k : ℕ} (v : GroupWide hs ws flat) (sides : C
 
     -- In row s at most component o of them lies, where there is one.
     across : (s o : ℕ) (b : Bool) → (b ≡ true → (low ≤ o) × (o < high)) → ((j : ℕ) → low ≤ j → j < high → (b ≡ true → j ≡ o → ⊥) → endAt hs flat j ≤ s)
-        → sumOf hs ws flat low high s ≡ cond b (shareAt hs ws flat s o) 0
+        → startedSum hs ws flat low high s ≡ cond b (shareAt hs ws flat s o) 0
     across s o true has ended =
         let h = has refl in
         omega (
@@ -146,11 +144,11 @@ module _ {hs ws flat : List ℕ} {k : ℕ} (v : GroupWide hs ws flat) (sides : C
         | yes l ↦ let z : j ≡ low - 1 = omega arith in rw z (n .1 h)
         | no l ↦ p .under-right h j (omega arith) b
       ];
-      peak = rw (m ∙ ap (max width) (e ∙ ap (λ (x : ℕ). getD ws (low - 1) 0 + x) (sym others))) (joins (low - 1) (omega (arith, n .0, p .below, sides .within)) (p .under-left (n .0)) (sumOf hs ws flat (low - 1) high) more);
+      peak = rw (m ∙ ap (max width) (e ∙ ap (λ (x : ℕ). getD ws (low - 1) 0 + x) (sym others))) (joins (low - 1) (omega (arith, n .0, p .below, sides .within)) (p .under-left (n .0)) (startedSum hs ws flat (low - 1) high) more);
       slim = omega (arith, p .slim);
     }
       where
-        others : sumOf hs ws flat low high (startAt flat (low - 1)) ≡ cond (ltb k high) (shareAt hs ws flat (startAt flat (low - 1)) (high - 1)) 0
+        others : startedSum hs ws flat low high (startAt flat (low - 1)) ≡ cond (ltb k high) (shareAt hs ws flat (startAt flat (low - 1)) (high - 1)) 0
         others = across (startAt flat (low - 1)) (high - 1) (ltb k high) (λ z. let l = ltb-true k high z in (omega (arith, p .below), omega arith)) (λ j a b other. elim (decLt j k) [
           | yes l ↦ sides .falls (low - 1) j (omega (arith, n .0)) l
           | no l ↦ elim (decLt j (high - 1)) [
@@ -159,7 +157,7 @@ module _ {hs ws flat : List ℕ} {k : ℕ} (v : GroupWide hs ws flat) (sides : C
           ]
         ])
 
-        more : (row : ℕ) → sumOf hs ws flat (low - 1) high row ≡ sumOf hs ws flat low high row + shareAt hs ws flat row (low - 1)
+        more : (row : ℕ) → startedSum hs ws flat (low - 1) high row ≡ startedSum hs ws flat low high row + shareAt hs ws flat row (low - 1)
         more row = let z : low - 1 + 1 ≡ low = omega (arith, n .0) in omega (arith, grows row, rw z at (total-more (shareAt hs ws flat row) (low - 1)))
 
     -- The next on the right.
@@ -176,11 +174,11 @@ module _ {hs ws flat : List ℕ} {k : ℕ} (v : GroupWide hs ws flat) (sides : C
         | yes l ↦ omega (arith, p .under-right (n .0) j a l)
         | no l ↦ let z : j ≡ high = omega arith in rw z (omega arith)
       ];
-      peak = rw (m ∙ ap (max width) (e ∙ ap (λ (x : ℕ). getD ws high 0 + x) (sym others))) (joins high (n .0) (p .under-right (n .0)) (sumOf hs ws flat low (high + 1)) more);
+      peak = rw (m ∙ ap (max width) (e ∙ ap (λ (x : ℕ). getD ws high 0 + x) (sym others))) (joins high (n .0) (p .under-right (n .0)) (startedSum hs ws flat low (high + 1)) more);
       slim = omega (arith, p .slim);
     }
       where
-        others : sumOf hs ws flat low high (startAt flat high) ≡ cond (ltb low k) (shareAt hs ws flat (startAt flat high) low) 0
+        others : startedSum hs ws flat low high (startAt flat high) ≡ cond (ltb low k) (shareAt hs ws flat (startAt flat high) low) 0
         others = across (startAt flat high) low (ltb low k) (λ z. let l = ltb-true low k z in (omega arith, omega (arith, p .above))) (λ j a b other. elim (decLt j k) [
           | yes l ↦ elim (decLt low j) [
             | yes d ↦ omega (arith, sides .falls low j d l, p .under-right (n .0) low (omega arith) (omega arith))
@@ -189,17 +187,15 @@ module _ {hs ws flat : List ℕ} {k : ℕ} (v : GroupWide hs ws flat) (sides : C
           | no l ↦ sides .rises j high (omega arith) b (n .0)
         ])
 
-        more : (row : ℕ) → sumOf hs ws flat low (high + 1) row ≡ sumOf hs ws flat low high row + shareAt hs ws flat row high
+        more : (row : ℕ) → startedSum hs ws flat low (high + 1) row ≡ startedSum hs ws flat low high row + shareAt hs ws flat row high
         more row = omega (arith, grows row, total-more (shareAt hs ws flat row) high)
 
     pub sweep-done : length hs ≤ high - low → WidthIs hs ws flat width
-    sweep-done h gs = (
-      le-antisymm (omega (arith, all (p .peak .row), p .peak .reached, row-most (placedIn hs ws gs flat) (p .peak .row)))
-          (greatest-le (rowSum (placedIn hs ws gs flat)) (topOf (placedIn hs ws gs flat)) width (λ row l. omega (arith, all row, p .peak .most row))),
-      width-at-start (placedIn hs ws gs flat) (omega (arith, tabulate-length (placedAt hs ws gs flat) (length hs), v .flat-group .some)),
-    )
+    sweep-done h gs =
+        le-antisymm (omega (arith, all (p .peak .row), p .peak .reached, row-most (placedIn hs ws gs flat) (p .peak .row)))
+        (greatest-le (rowSum (placedIn hs ws gs flat)) (topOf (placedIn hs ws gs flat)) width (λ row l. omega (arith, all row, p .peak .most row)))
       where
-        all : (row : ℕ) → sumOf hs ws flat low high row ≡ rowSum (placedIn hs ws gs flat) row
+        all : (row : ℕ) → startedSum hs ws flat low high row ≡ rowSum (placedIn hs ws gs flat) row
         all row =
             let z : low ≡ 0 = omega (arith, p .inside) in
             let y : high ≡ length hs = omega (arith, p .inside) in

@@ -9,7 +9,6 @@ use Rattle.terms.specs.Numbers.{mostApart}
 use Rattle.folding.specs.declared.Outline.{Outline}
 use Rattle.folding.specs.Legal.{mostStart}
 use Rattle.folding.specs.Outline.{groupWidth, groupHeight}
-use Rattle.folding.specs.StartRows.{WidthAtStart}
 use Rattle.folding.specs.Asks.{placedIn, groupAt, sideAt, startAt, endAt}
 
 -- What component i adds to the sum of a row.
@@ -18,7 +17,7 @@ shareAt hs ws flat row i = cond (leb (startAt flat i) row && ltb row (endAt hs f
 
 -- The sum of the row where component i starts: on its side it is alone there, and on the other side at most one lies there.
 abbrev pub sumAtStart : List ℕ → List ℕ → List ℕ → ℕ → ℕ → Bool → ℕ
-sumAtStart hs ws flat i other both = getD ws i 0 + cond both (shareAt hs ws flat (startAt flat i) other) 0
+sumAtStart hs ws flat i other across = getD ws i 0 + cond across (shareAt hs ws flat (startAt flat i) other) 0
 
 -- Two widths of 16 bits.
 abbrev pub mostWidth : ℕ
@@ -79,18 +78,18 @@ pub record GroupWide (hs ws flat : List ℕ) : Type 0 where
   pub widths-long : length ws ≡ length hs
   pub tall : (i : ℕ) → i < length hs → 0 < getD hs i 0
 
--- The width of a group, which a row has where a component starts, whatever the gaps are.
-abbrev pub WidthIs : List ℕ → List ℕ → List ℕ → ℕ → Type 0
-WidthIs hs ws flat width = (gs : List ℕ) → (width ≡ groupWidth (placedIn hs ws gs flat)) × WidthAtStart (placedIn hs ws gs flat)
-
--- The height of a group behind the gap g0, whatever its widths are.
-abbrev pub HeightIs : ℕ → List ℕ → List ℕ → List ℕ → ℕ → Type 0
-HeightIs g0 hs gs flat height = (ws : List ℕ) → height ≡ groupHeight g0 (placedIn hs ws gs flat)
-
 -- And with its gaps.
 pub record GroupIn (hs ws gs flat : List ℕ) : Type 0 where
   pub wide : GroupWide hs ws flat
   pub gaps-long : length gs ≡ length hs
+
+-- The width of a group, whatever its gaps are.
+abbrev pub WidthIs : List ℕ → List ℕ → List ℕ → ℕ → Type 0
+WidthIs hs ws flat width = (gs : List ℕ) → width ≡ groupWidth (placedIn hs ws gs flat)
+
+-- The height of a group behind the gap g0, whatever its widths are.
+abbrev pub HeightIs : ℕ → List ℕ → List ℕ → List ℕ → ℕ → Type 0
+HeightIs g0 hs gs flat height = (ws : List ℕ) → height ≡ groupHeight g0 (placedIn hs ws gs flat)
 
 -- The width and the height of a group behind the gap g0.
 pub record GroupOutlined (g0 : ℕ) (hs ws gs flat : List ℕ) (o : Outline) : Type 0 where

@@ -5,7 +5,8 @@ ghost use Prim.Native.Nat.{ℕ, _+_, _-_, _*_, _≤_, _<_};
 ghost use lib.ListN.{length};
 ghost use Rattle.terms.specs.Numbers.{mostApart};
 ghost use Rattle.folding.specs.Legal.{mostStart};
-ghost use Rattle.folding.specs.Outline.{greatest};
+ghost use Rattle.folding.specs.Outline.{groupsOf, greatest};
+ghost use Rattle.folding.specs.StartRows.{AllAtStart};
 ghost use Rattle.folding.specs.Asks.{placedIn, endAt, outlineIn, Legalised};
 ghost use Rattle.outline.specs.Inner.{shareAt, sumAtStart, mostWidth, StandsAt, GroupEnd, Lefts, GroupFlat, Chains};
 ghost use Rattle.outline.specs.Inner.{NextStart, GroupWide, WidthIs, HeightIs, GroupIn, GroupOutlined};
@@ -79,25 +80,25 @@ fn lefts(flat: &[u32], n: usize) -> usize
     k
 }
 
-// The sum of the row where component i starts. On its own side it is alone there; `other` is the last that started on the
-// other side, where both sides have started.
+// The sum of the row where component i starts. On its own side it is alone there. On the other side only the last that
+// started, `other`, can reach so high; `across` says whether one has started there.
 fn start_sum(
     heights: &[u16],
     widths: &[u16],
     flat: &[u32],
     i: usize,
     other: usize,
-    both: bool,
+    across: bool,
 ) -> Slices
     requires { ⌜ StandsAt (now heights) (now flat) i × (length (now widths) ≡ length (now heights)) ⌝ }
-    requires { ⌜ (both ≡ true → StandsAt (now heights) (now flat) other) ⌝ }
+    requires { ⌜ (across ≡ true → StandsAt (now heights) (now flat) other) ⌝ }
     ensures { λ r. ⌜ r .0
-        ≡ sumAtStart (now (heights .entry)) (now (widths .entry)) (now (flat .entry)) i other both ⌝ }
+        ≡ sumAtStart (now (heights .entry)) (now (widths .entry)) (now (flat .entry)) i other across ⌝ }
     ensures { λ r. ⌜ r .0 ≤ mostWidth ⌝ }
 {
     let own = wide(widths[i]);
     let row = Rows(flat[3 * i + 2]);
-    if both {
+    if across {
         return Slices(own + share(heights, widths, flat, row, other).0);
     }
     Slices(own)
@@ -117,8 +118,8 @@ fn left_next(flat: &[u32], n: usize, low: usize, high: usize) -> bool
     flat[3 * (low - 1) + 2] <= flat[3 * high + 2]
 }
 
-// The greatest row sum of a group with k components on the left. It occurs at a row where a component starts, so one row is
-// summed for each, lowest first: back along the left side and on along the right one, as two sorted lists are merged.
+// The greatest row sum of a group with k components on the left. It occurs at a row where a component starts. One such row
+// is summed for each, lowest first: back along the left side and on along the right one, as two sorted lists are merged.
 fn group_width(heights: &[u16], widths: &[u16], flat: &[u32], k: usize) -> Slices
     requires { ⌜ GroupWide (now heights) (now widths) (now flat) × Chains (now heights) (now flat) k ⌝ }
     ensures { λ r. ⌜ WidthIs (now (heights .entry)) (now (widths .entry)) (now (flat .entry)) (r .0) ⌝ }
@@ -130,13 +131,13 @@ fn group_width(heights: &[u16], widths: &[u16], flat: &[u32], k: usize) -> Slice
     let mut width = 0;
     while high - low < n {
         if left_next(flat, n, low, high) {
-            let both = k < high;
+            let across = k < high;
             low -= 1;
-            let left = start_sum(heights, widths, flat, low, high - 1, both);
+            let left = start_sum(heights, widths, flat, low, high - 1, across);
             width = larger(width, left.0);
         } else {
-            let both = low < k;
-            let right = start_sum(heights, widths, flat, high, low, both);
+            let across = low < k;
+            let right = start_sum(heights, widths, flat, high, low, across);
             width = larger(width, right.0);
             high += 1;
         }
@@ -178,11 +179,13 @@ fn group_outline(
     }
 }
 
-// The outline of a legal folding, group after group.
+// The outline of a legal folding, group after group; each group is as wide as the sum of a row where a component starts.
 pub fn outline_of(heights: &[u16], widths: &[u16], gaps: &[u16], flat: &[u32]) -> Outline
     requires { ⌜ Legalised (now heights) (now widths) (now gaps) (now flat) ⌝ }
     ensures { λ r. ⌜ r
         ≡ outlineIn (placedIn (now (heights .entry)) (now (widths .entry)) (now (gaps .entry)) (now (flat .entry))) ⌝ }
+    ensures { λ _. ⌜ AllAtStart (groupsOf
+        (placedIn (now (heights .entry)) (now (widths .entry)) (now (gaps .entry)) (now (flat .entry)))) ⌝ }
 {
     let n = heights.len();
     let mut width = 0;

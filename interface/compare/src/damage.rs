@@ -2,6 +2,7 @@
 
 use crate::calls::{same, Call, Caller, Compared, FoldCall};
 use crate::front::{best, Aim, Toward};
+use crate::measure::HIGHEST;
 use crate::rng::Rng;
 use crate::rows;
 use crate::rules::{self, WORK};
@@ -211,7 +212,7 @@ fn damage_folding(rng: &mut Rng, folding: &mut Vec<u32>) {
             *number = match which {
                 0 => rng.pick(&[next_to[0], next_to[1], 0, u32::MAX]),
                 1 => rng.pick(&[1 ^ (*number & 1), 0, 1, 2, u32::MAX]),
-                _ => rng.pick(&[next_to[0], next_to[1], 0, next_to[0], next_to[1], 1_024_000, 1_024_001, u32::MAX]),
+                _ => rng.pick(&[next_to[0], next_to[1], 0, next_to[0], next_to[1], HIGHEST, HIGHEST + 1, u32::MAX]),
             };
         }
     }

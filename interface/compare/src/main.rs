@@ -33,8 +33,6 @@ const APART_WAIT: usize = rules::WORK / 2;
 const MOST_LINES: usize = 7_719;
 const DAMAGED: usize = 300_000;
 const MEASURED: usize = 4_000;
-/// The highest start row.
-const HIGHEST: u32 = 1_024_000;
 
 fn main() -> ExitCode {
     let seed = env::args().nth(1).map_or(Ok(1), |word| word.parse::<u64>());
@@ -66,7 +64,12 @@ fn all(caller: &mut Caller) -> Compared<()> {
     damaged(caller)?;
     part(&format!("{DAMAGED} damaged files, foldings, limits and buffers"), caller);
     measured(caller)?;
-    part(&format!("{MEASURED} foldings of 1 to 64 components nested, 1 to 256 apart, measured row by row"), caller);
+    part(
+        &format!(
+            "{MEASURED} foldings of 1 to 64 components nested, 1 to 256 apart, measured row by row and chosen from"
+        ),
+        caller,
+    );
     let foldings = enumerated(caller)?;
     part(&format!("{ENUMERATED} stacks of 1 to 5 components, {foldings} foldings enumerated"), caller);
     searched(caller)?;
@@ -92,24 +95,31 @@ fn told(stack: &[Component], nested: bool) -> impl FnOnce(String) -> String {
 }
 
 /// Groups of any length. Small numbers let components on both sides start in one row, or one end where another starts; a
-/// quarter of the foldings has large ones, and a quarter stands high.
+/// quarter of the stacks has large ones, and a quarter of the foldings stands high.
 fn measured(caller: &mut Caller) -> Compared<()> {
     for at in 0..MEASURED {
         let nested = at % 2 == 0;
         let count = caller.rng.within(1, if nested { 64 } else { 256 }) as usize;
-        let stack = match at / 2 % 4 {
-            0 => noisy(caller, count),
-            _ => random(&mut caller.rng, count, SHAPES[at / 8 % SHAPES.len()]),
+        let stack = match caller.rng.one_in(4) {
+            true => noisy(caller, count),
+            false => random(&mut caller.rng, count, SHAPES[at / 2 % SHAPES.len()]),
         };
-        // A component has at most two empty rows below it.
-        let most_lift = HIGHEST.saturating_sub(stack::total(&stack) + 2 * count as u32);
-        let lift = if at / 2 % 4 == 1 { most_lift } else { 0 };
-        let folding = damage::random_folding(&mut caller.rng, &stack, nested, count, lift);
+        let folding = long_folding(caller, &stack, nested);
+        let other = long_folding(caller, &stack, nested);
+        let file = stack::file(&stack);
         same("the folding is legal", measure::outline(&stack, nested, &folding).is_some(), true)
-            .and_then(|()| caller.measure(&stack::file(&stack), nested, &folding))
+            .and_then(|()| caller.measure(&file, nested, &folding))
+            .and_then(|()| caller.choose(&file, nested, &folding, &other))
             .map_err(told(&stack, nested))?;
     }
     Ok(())
+}
+
+fn long_folding(caller: &mut Caller, stack: &[Component], nested: bool) -> Vec<u32> {
+    // A component has at most two empty rows below it.
+    let most_lift = measure::HIGHEST.saturating_sub(stack::total(stack) + 2 * stack.len() as u32);
+    let lift = if caller.rng.one_in(4) { most_lift } else { 0 };
+    damage::random_folding(&mut caller.rng, stack, nested, stack.len(), lift)
 }
 
 fn enumerated(caller: &mut Caller) -> Compared<u64> {

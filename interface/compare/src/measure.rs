@@ -2,6 +2,9 @@
 
 use crate::stack::Component;
 
+/// The highest start row.
+pub const HIGHEST: u32 = 1_024_000;
+
 #[derive(Clone, Copy, Debug, PartialEq, Eq)]
 pub struct Outline {
     pub width: u32,
@@ -50,7 +53,7 @@ pub fn outline(stack: &[Component], nested: bool, folding: &[u32]) -> Option<Out
 /// The two sides of a legal group; nothing for a broken one, as an empty one is.
 fn sides(group: &[Placed], nested: bool) -> Option<(&[Placed], &[Placed])> {
     let (left, right) = group.split_at(group.iter().take_while(|p| p.side == 0).count());
-    let in_range = group.iter().all(|p| p.start <= 1_024_000);
+    let in_range = group.iter().all(|p| p.start <= HIGHEST);
     let sides = !left.is_empty() && right.iter().all(|p| p.side == 1) && (nested || right.is_empty());
     let clear = in_range
         && left.windows(2).all(|pair| pair[0].start >= pair[1].end())

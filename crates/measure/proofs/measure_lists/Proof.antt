@@ -19,7 +19,7 @@ outline-of-requires : tie.Need-outline-of-requires
 outline-of-requires c κs = record { stack = c .before .before .before .before .before .before .before .pre; flat-long = omega arith; is-legal = (c .before .before .before .before .before .before .before .args .kind, sym (c .before .is-legal .ensures) ∙ not-false _ (c .if2 .left)) }
 
 returns-3 : tie.Need-returns-3
-returns-3 c = rw (c .outline-of .ensures) (outlined (c .before .before .before .before .before .before .before .before .args .kind) (now (c .before .before .before .before .before .before .before .before .args .heights)) (now (c .before .before .before .before .before .before .before .before .args .widths)) (now (c .before .before .before .before .before .before .before .before .args .gaps)) (now (c .before .before .before .before .before .before .before .before .args .flat)) (c .before .before .before .if1 .left) (sym (c .before .before .is-legal .ensures) ∙ not-false _ (c .before .if2 .left)))
+returns-3 c = rw (c .outline-of .ensures .0) (outlined (c .before .before .before .before .before .before .before .before .args .kind) (now (c .before .before .before .before .before .before .before .before .args .heights)) (now (c .before .before .before .before .before .before .before .before .args .widths)) (now (c .before .before .before .before .before .before .before .before .args .gaps)) (now (c .before .before .before .before .before .before .before .before .args .flat)) (c .before .before .before .if1 .left) (sym (c .before .before .is-legal .ensures) ∙ not-false _ (c .before .if2 .left)))
 
 pub measure-lists-spec : {M : Type 1} → statement M
 measure-lists-spec =

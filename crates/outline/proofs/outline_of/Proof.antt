@@ -1,3 +1,4 @@
+use Rattle.folding.proofs.StartRows.{all-at-start}
 use Prim.Native.Nat.{_-_}
 use lib.ListN.{length}
 use Rattle.outline.proofs.Walk.{Walked, walk-start, group-in, walk-on, walk-done}
@@ -100,7 +101,7 @@ loop-again : tie.Need-loop-again Inv-loop μ-loop
 loop-again c = walk-on (c .before .before .before .before .before .before .before .before .before .before .before .before .before .before .before .before .pre) (c .before .before .before .before .before .before .before .before .before .before .before .loop .inv) (c .before .before .before .before .before .before .before .before .before .group-end .ensures) (c .before .before .before .before .group-outline .ensures .width-is) (c .before .before .before .before .group-outline .ensures .height-is) (c .before .before .before .before .group-outline .ensures .slim) (c .before .before .larger .ensures) (c .wide .ensures .0) (omega (arith, c .wide .ensures .1))
 
 returns : tie.Need-returns Inv-loop μ-loop
-returns c = let d = walk-done (c .before .before .before .before .before .before .pre) (c .before .loop .inv) (c .loop-test .left) in rw (← d .0, ← d .1)
+returns c = (let d = walk-done (c .before .before .before .before .before .before .pre) (c .before .loop .inv) (c .loop-test .left) in rw (← d .0, ← d .1), all-at-start _)
 
 pub outline-of-spec : {M : Type 1} → statement M
 outline-of-spec =
