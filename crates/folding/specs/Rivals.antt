@@ -1,18 +1,21 @@
 -- What "best", "unmeetable", "smallest" and "unbeaten" rule out: a legal folding of w slices and h rows is a rival that no
--- claim outlives.
-use Prim.Native.Nat.{ℕ, _*_, _≤_, _<_}
+-- claim outlives. And what a start row rules out.
+use Prim.Native.Nat.{ℕ, _*_, _≤_, _<_, max}
 use mathlib.Core.Path.{_≡_, refl, ap, subst}
 use mathlib.Core.Logic.{_⊎_, inl, inr}
-use mathlib.Core.List.{List}
+use mathlib.Core.List.{List, [], _∷_, _++_}
 use native.Mathlib.Omega.{arith}
 use Rattle.terms.specs.declared.Component.{Component}
 use Rattle.terms.specs.declared.Kind.{Kind}
 use Rattle.terms.specs.declared.Kind.the-variants.{Apart}
+use Rattle.folding.specs.declared.Placed.{Placed}
 use Rattle.folding.specs.declared.Placement.{Placement}
 use Rattle.folding.specs.declared.Outline.{Outline}
+use Rattle.folding.specs.Placement.{startOf, placedOf}
 use Rattle.folding.specs.Outline.{outlineOf}
+use Rattle.folding.specs.StartRows.{StartRow}
 use Rattle.folding.specs.Best.{Wider, Higher, Larger, Other, BestForHeight, BestForWidth, UnmeetableHeight, UnmeetableWidth, SmallestArea, Unbeaten}
-use Rattle.folding.specs.Examples.{Folds, stack-A, stack-B, stack-E, A-apart-2-3, B-apart-1-10, B-apart-3-4, E-apart-3-4}
+use Rattle.folding.specs.Examples.{Folds, p, stack-A, stack-B, stack-E, A-apart-2-3, B-apart-1-10, B-apart-3-4, E-apart-3-4}
 
 abbrev o : ℕ → ℕ → Outline
 o w h = record { width = record { 0 = w }; height = record { 0 = h } }
@@ -94,3 +97,20 @@ B-twelve-cells ps = not-smallest B-apart-1-10 3 4 ps (inl (omega arith))
 
 E-six-slices : (ps : List Placement) → SmallestArea Apart stack-E ps (o 6 2) → ⊥
 E-six-slices ps = not-smallest E-apart-3-4 6 2 ps (inr (refl, omega arith))
+
+highestStart : List Placed → ℕ
+highestStart [] = 0
+highestStart (x ∷ g) = max (startOf x) (highestStart g)
+
+start-in : (before : List Placed) (x : Placed) (behind : List Placed) → startOf x ≤ highestStart (before ++ (x ∷ behind))
+unfolding highestStart
+start-in [] x behind = omega arith
+start-in (y ∷ before) x behind = omega (arith, start-in before x behind)
+
+no-start-above : (g : List Placed) (row : ℕ) → highestStart g < row → StartRow g row → ⊥
+no-start-above g row h s = omega (arith, s .starts, start-in (s .before) (s .component) (s .behind), ap highestStart (s .of-group))
+
+-- A's component takes row 2, and starts in row 0.
+A-row-two : StartRow (placedOf stack-A (p 0 0 0 ∷ [])) 2 → ⊥
+unfolding placedOf highestStart
+A-row-two = no-start-above (placedOf stack-A (p 0 0 0 ∷ [])) 2 (omega arith)

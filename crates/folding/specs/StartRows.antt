@@ -20,6 +20,7 @@ pub record WidthAtStart (g : List Placed) : Type 0 where
   pub start : StartRow g row
   pub sum-is : rowSum g row ≡ groupWidth g
 
+-- In every group of a folding.
 abbrev pub AllAtStart : List (List Placed) → Type 0
 AllAtStart [] = Unit {0}
 AllAtStart (g ∷ gs) = WidthAtStart g × AllAtStart gs
