@@ -15,7 +15,7 @@ use Rattle.folding.specs.Placement.{heightOf, widthOf, startOf, endOf, p
 use Rattle.folding.specs.Legal.{sameGroup}
 use Rattle.folding.specs.Outline.{joined, groupsOf, topOf, takes, rowSum, groupWidth, lastGap, folded, foldGap, groupHeight, layoutWidth, layoutHeight, outlineOf}
 use Rattle.folding.proofs.Sums.{total, total-most}
-use Rattle.folding.proofs.Rows.{greatest-ge, takes-is, takes-of}
+use Rattle.folding.proofs.Rows.{takes-is, takes-of, row-most}
 
 -- The cells of placed components, and of groups of them.
 unfoldable cellsIn : List Placed → ℕ
@@ -70,7 +70,7 @@ group-cells : (g : List Placed) → cellsIn g ≡ total (rowSum g) (topOf g)
 group-cells g = sym (rows-cells g (topOf g) (omega arith))
 
 group-cells-most : (g : List Placed) → cellsIn g ≤ topOf g * groupWidth g
-group-cells-most g = omega (arith, group-cells g, total-most (rowSum g) (topOf g) (groupWidth g) (greatest-ge (rowSum g) (topOf g)))
+group-cells-most g = omega (arith, group-cells g, total-most (rowSum g) (topOf g) (groupWidth g) (λ r l. row-most g r))
 
 -- The highest top among groups: what each group's height, and so the layout's, reaches at least.
 unfoldable highest : List (List Placed) → ℕ

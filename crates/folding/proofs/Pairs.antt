@@ -9,8 +9,8 @@ use Rattle.terms.proofs.Bools.{either}
 use Rattle.folding.specs.declared.Placed.{Placed}
 use Rattle.folding.specs.Placement.{heightOf, widthOf, startOf, endOf}
 use Rattle.folding.specs.Outline.{topOf, takes, rowSum, groupWidth}
-use Rattle.folding.proofs.Rows.{greatest-le, greatest-ge, takes-is, takes-of, Tall}
-use Rattle.folding.proofs.Sides.{Chain, top-sides, row-sides}
+use Rattle.folding.proofs.Rows.{greatest-le, takes-is, takes-of, row-most, Tall}
+use Rattle.folding.proofs.Sides.{Chain, row-sides}
 
 -- No single width is over c.
 abbrev pub Narrow : ℕ → List Placed → Type 0
@@ -38,53 +38,43 @@ row-rest : (x : Placed) (l : List Placed) (row : ℕ) → rowSum l row ≤ rowSu
 unfolding rowSum
 row-rest x l row = omega arith
 
--- From row sums to single widths and pairs. k is what the other components add at each row.
-narrow-of : (c top : ℕ) (f : ℕ → ℕ) (l : List Placed) → Tall l → topOf l ≤ top → ((row : ℕ) → row < top → rowSum l row ≤ f row) → ((row : ℕ) → row < top → f row ≤ c) → Narrow c l
-unfolding topOf
-narrow-of c top f [] t h k m = tt
-narrow-of c top f (x ∷ l) t h k m =
-    let e = takes-of x (startOf x) (omega arith) (omega arith) in
-    let a = k (startOf x) (omega arith) in
-    let b = m (startOf x) (omega arith) in (
-      omega (arith, row-adds x l (startOf x) e),
-      narrow-of c top f l (t .1) (omega arith) (λ row g. let u = k row g in omega (arith, row-rest x l row)) m,
-    )
-
-fit-of : (c top : ℕ) (x : Placed) (f : ℕ → ℕ) (r : List Placed) → 0 < heightOf x → endOf x ≤ top → Tall r → topOf r ≤ top
-    → ((row : ℕ) → row < top → takes x row ≡ true → widthOf x + rowSum r row ≤ f row) → ((row : ℕ) → row < top → f row ≤ c) → FitAll c x r
-unfolding topOf
-fit-of c top x f [] p q t h k m = tt
-fit-of c top x f (y ∷ r) p q t h k m = (
-  λ u v.
-      let row : ℕ = max (startOf x) (startOf y) in
-      let a = k row (omega arith) (takes-of x row (omega arith) (omega arith)) in
-      let b = m row (omega arith) in
-      omega (arith, row-adds y r row (takes-of y row (omega arith) (omega arith))),
-  fit-of c top x f r p q (t .1) (omega arith) (λ row g e. let u = k row g e in omega (arith, row-rest y r row)) m,
+-- From row sums to single widths and pairs.
+narrow-of : (c : ℕ) (l : List Placed) → Tall l → ((row : ℕ) → rowSum l row ≤ c) → Narrow c l
+narrow-of c [] t k = tt
+narrow-of c (x ∷ l) t k = (
+  omega (arith, k (startOf x), row-adds x l (startOf x) (takes-of x (startOf x) (omega arith) (omega arith))),
+  narrow-of c l (t .1) (λ row. omega (arith, k row, row-rest x l row)),
 )
 
-all-fit-of : (c top : ℕ) (f : ℕ → ℕ) (l r : List Placed) → Tall l → topOf l ≤ top → Tall r → topOf r ≤ top
-    → ((row : ℕ) → row < top → rowSum l row + rowSum r row ≤ f row) → ((row : ℕ) → row < top → f row ≤ c) → AllFit c l r
-unfolding topOf
-all-fit-of c top f [] r s g t h k m = tt
-all-fit-of c top f (x ∷ l) r s g t h k m = (
-  fit-of c top x f r (s .0) (omega arith) t h (λ row a e. let u = k row a in omega (arith, row-adds x l row e)) m,
-  all-fit-of c top f l r (s .1) (omega arith) t h (λ row a. let u = k row a in omega (arith, row-rest x l row)) m,
+fit-of : (c : ℕ) (x : Placed) (r : List Placed) → 0 < heightOf x → Tall r → ((row : ℕ) → takes x row ≡ true → widthOf x + rowSum r row ≤ c) → FitAll c x r
+fit-of c x [] p t k = tt
+fit-of c x (y ∷ r) p t k = (
+  λ u v.
+      let row : ℕ = max (startOf x) (startOf y) in
+      omega (arith, k row (takes-of x row (omega arith) (omega arith)), row-adds y r row (takes-of y row (omega arith) (omega arith))),
+  fit-of c x r p (t .1) (λ row e. omega (arith, k row e, row-rest y r row)),
+)
+
+all-fit-of : (c : ℕ) (l r : List Placed) → Tall l → Tall r → ((row : ℕ) → rowSum l row + rowSum r row ≤ c) → AllFit c l r
+all-fit-of c [] r s t k = tt
+all-fit-of c (x ∷ l) r s t k = (
+  fit-of c x r (s .0) t (λ row e. omega (arith, k row, row-adds x l row e)),
+  all-fit-of c l r (s .1) t (λ row. omega (arith, k row, row-rest x l row)),
 )
 
 -- The group's width bounds both.
 module _ (c : ℕ) (l r : List Placed) (s : Tall l) (t : Tall r) (w : groupWidth (reverseAux l r) ≤ c) where
-  at-row : (row : ℕ) → row < max (topOf l) (topOf r) → rowSum l row + rowSum r row ≤ c
-  at-row row h = omega (arith, row-sides l r row, greatest-ge (rowSum (reverseAux l r)) (topOf (reverseAux l r)) row (omega (arith, top-sides l r)))
+  at-row : (row : ℕ) → rowSum l row + rowSum r row ≤ c
+  at-row row = omega (arith, row-sides l r row, row-most (reverseAux l r) row)
 
   pub cap-narrow-left : Narrow c l
-  cap-narrow-left = narrow-of c (max (topOf l) (topOf r)) (λ row. rowSum l row + rowSum r row) l s (omega arith) (λ row h. omega arith) at-row
+  cap-narrow-left = narrow-of c l s (λ row. omega (arith, at-row row))
 
   pub cap-narrow-right : Narrow c r
-  cap-narrow-right = narrow-of c (max (topOf l) (topOf r)) (λ row. rowSum l row + rowSum r row) r t (omega arith) (λ row h. omega arith) at-row
+  cap-narrow-right = narrow-of c r t (λ row. omega (arith, at-row row))
 
   pub cap-fits : AllFit c l r
-  cap-fits = all-fit-of c (max (topOf l) (topOf r)) (λ row. rowSum l row + rowSum r row) l r s (omega arith) t (omega arith) (λ row h. omega arith) at-row
+  cap-fits = all-fit-of c l r s t at-row
 
 -- A row of a chain holds nothing, or one component.
 no-row : (lo row : ℕ) (l : List Placed) → Chain lo l → row < lo → rowSum l row ≡ 0

@@ -13,7 +13,7 @@ use Rattle.folding.specs.declared.Placement.{Placement}
 use Rattle.folding.specs.Placement.{widthOf, startOf, endOf, placedOf}
 use Rattle.folding.specs.Legal.{sameGroup}
 use Rattle.folding.specs.Outline.{joined, groupsOf, topOf, takes, rowSum, groupWidth, layoutWidth, outlineOf}
-use Rattle.folding.proofs.Rows.{greatest-le, greatest-ge, takes-of}
+use Rattle.folding.proofs.Rows.{greatest-le, takes-of, row-most}
 use Rattle.folding.proofs.Groups.{groups-head}
 
 -- The widths of placed components, and of groups of them.
@@ -25,10 +25,10 @@ unfoldable sumOfAll : List (List Placed) → ℕ
 sumOfAll [] = 0
 sumOfAll (g ∷ gs) = sumOf g + sumOfAll gs
 
-row-most : (g : List Placed) (r : ℕ) → rowSum g r ≤ sumOf g
+row-within : (g : List Placed) (r : ℕ) → rowSum g r ≤ sumOf g
 unfolding rowSum sumOf
-row-most [] r = omega arith
-row-most (x ∷ g) r = go (takes x r) (row-most g r)
+row-within [] r = omega arith
+row-within (x ∷ g) r = go (takes x r) (row-within g r)
   where
     go : (b : Bool) → rowSum g r ≤ sumOf g → cond b (widthOf x) 0 + rowSum g r ≤ widthOf x + sumOf g
     go true h = omega arith
@@ -37,7 +37,7 @@ row-most (x ∷ g) r = go (takes x r) (row-most g r)
 layout-most : (gs : List (List Placed)) → layoutWidth gs ≤ sumOfAll gs
 unfolding layoutWidth sumOfAll
 layout-most [] = omega arith
-layout-most (g ∷ gs) = omega (arith, greatest-le (rowSum g) (topOf g) (sumOf g) (λ r h. row-most g r), layout-most gs)
+layout-most (g ∷ gs) = omega (arith, greatest-le (rowSum g) (topOf g) (sumOf g) (λ r h. row-within g r), layout-most gs)
 
 -- A component in front adds its width, whichever group it joins.
 joined-sum : (x : Placed) (gs : List (List Placed)) → sumOfAll (joined x gs) ≡ widthOf x + sumOfAll gs
@@ -66,10 +66,10 @@ width-most cs ps = omega (arith, layout-most (groupsOf (placedOf cs ps)), groups
 
 -- The row where the first component starts has its width.
 first-row : (x : Placed) (g : List Placed) → startOf x < endOf x → widthOf x ≤ groupWidth (x ∷ g)
-unfolding rowSum topOf
+unfolding rowSum
 first-row x g h =
     let e : widthOf x ≤ rowSum (x ∷ g) (startOf x) = rw (takes-of x (startOf x) (omega arith) h) (omega arith) in
-    omega (arith, greatest-ge (rowSum (x ∷ g)) (topOf (x ∷ g)) (startOf x) (omega arith))
+    omega (arith, row-most (x ∷ g) (startOf x))
 
 pub width-some : (cs : List Component) (ps : List Placement) → AllSized cs → 0 < length cs → length ps ≡ length cs → 0 < outlineOf cs ps .width .0
 unfolding placedOf layoutWidth
