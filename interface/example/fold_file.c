@@ -6,8 +6,8 @@
 #include <stdlib.h>
 #include <string.h>
 
-/* The longest stack file has 256 components; one byte more shows a file that is longer still. */
-static uint8_t file[7 + 6 * 256 + 1];
+/* The longest stack file has 256 components of version 2; one byte more shows a file that is longer still. */
+static uint8_t file[7 + 8 * 256 + 1];
 static size_t file_len;
 static bool nested;
 static uint32_t placements[FOLDS_PLACEMENTS(256)];

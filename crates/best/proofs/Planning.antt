@@ -6,7 +6,7 @@ use native.Mathlib.Omega.{arith}
 use lib.ListN.{length}
 use Rattle.terms.specs.declared.Kind.{Kind}
 use Rattle.terms.specs.Answer.{result}
-use Rattle.terms.specs.Component.{componentsIn}
+use Rattle.terms.specs.Seams.{componentsIn}
 use Rattle.terms.proofs.Answers.{most-256}
 use Rattle.group.specs.Group.{none}
 use Rattle.layout.specs.Layout.{layoutOf}
@@ -16,7 +16,7 @@ use Rattle.plan.specs.Asks.{Plannable, PlanDone}
 use Rattle.best.specs.Asks.{Written}
 
 pub plannable-again : {kind : Kind} {hs ws gs work work′ : List ℕ} → Plannable kind hs ws gs work → length work′ ≡ length work → Plannable kind hs ws gs work′
-plannable-again a e = record { lists = a .lists; some = a .some; room = omega (arith, a .room) }
+plannable-again a e = record { lists = a .lists; some = a .some; free = a .free; room = omega (arith, a .room) }
 
 module _ {kind : Kind} {limit : ℕ} {hs ws gs work widths heights ends : List ℕ} {o : Outline} (a : Plannable kind hs ws gs work)
     (d : PlanDone kind limit (componentsIn hs ws gs) widths heights ends o) where

@@ -10,7 +10,8 @@ use lib.Seq.{take-all}
 use Rattle.terms.specs.declared.Component.{Component}
 use Rattle.terms.specs.declared.Kind.{Kind}
 use Rattle.terms.specs.declared.Kind.the-variants.{Apart}
-use Rattle.terms.specs.Component.{componentIn, componentsIn, cellSum, tallest}
+use Rattle.terms.specs.Component.{cellSum, tallest}
+use Rattle.terms.specs.Seams.{gapAt, componentIn, componentsIn}
 use Rattle.terms.proofs.Answers.{most-256}
 use Rattle.group.proofs.Gaps.{gap-behind-all}
 use Rattle.layout.specs.Plan.{StackLists}
@@ -25,7 +26,7 @@ use Rattle.best.specs.Asks.{CellsAsk, CellsOf, Unfolded}
 pub any-kind : {kind : Kind} {hs ws gs : List ℕ} → StackLists kind hs ws gs → StackLists Apart hs ws gs
 any-kind {kind} s = record {
   same-widths = s .same-widths;
-  same-gaps = s .same-gaps;
+  same-seams = s .same-seams;
   few = omega (arith, s .few, most-256 kind);
   tall = s .tall;
   low = s .low;
@@ -118,7 +119,7 @@ module _ {hs ws gs : List ℕ} (a : StackLists Apart hs ws gs) where
   abbrev cs : List Component
   cs = componentsIn hs ws gs
 
-  pub unfolded : (some : 0 < length hs) (z : Sizes) → SizesOf hs ws (length hs) z → (d : Cells) → CellsOf hs ws d → (last : ℕ) → last ≡ getD gs (length hs - 1) 0
+  pub unfolded : (some : 0 < length hs) (z : Sizes) → SizesOf hs ws (length hs) z → (d : Cells) → CellsOf hs ws d → (last : ℕ) → last ≡ gapAt gs (length hs - 1)
       → Unfolded (componentsIn hs ws gs) (record { widest = record { 0 = z .widest .0 }; tallest = record { 0 = d .tallest .0 }; height = record { 0 = z .tall .0 + last }; cells = d .count })
   unfolded some z s d t last e =
       let all : take (length hs) cs ≡ cs = take-all (length hs) cs (omega (arith, components-length hs ws gs)) in

@@ -7,7 +7,8 @@ use Rattle.terms.specs.Numbers.{mostSize, mostApart, mostLimit}
 use Rattle.terms.specs.declared.Component.{Component}
 use Rattle.terms.specs.declared.Kind.{Kind}
 use Rattle.terms.specs.Answer.{Answer, refusal, result}
-use Rattle.terms.specs.Component.{componentsIn, cellSum, tallest}
+use Rattle.terms.specs.Component.{cellSum, tallest}
+use Rattle.terms.specs.Seams.{componentsIn}
 use Rattle.folding.specs.declared.Outline.{Outline}
 use Rattle.folding.specs.Placement.{placementsOf}
 use Rattle.group.specs.Group.{none, widest, flatHeight}
@@ -35,7 +36,7 @@ Written kind cs limit out out′ (result o) =
     × Folds kind 0 0 cs (placementsOf out′ (length cs)) (layoutOf kind limit 0 cs .width) (layoutOf kind limit 0 cs .height)
     × (drop (3 * length cs) out′ ≡ drop (3 * length cs) out) × (length out′ ≡ length out)
 
--- The heights and widths of a stack, whatever its gaps.
+-- The heights and widths of a stack, whatever its seams.
 pub record CellsAsk (hs ws : List ℕ) : Type 0 where
   pub few : length hs ≤ mostApart
   pub same : length ws ≡ length hs

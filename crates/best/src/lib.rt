@@ -3,12 +3,13 @@ ghost use mathlib.Core.Path.{_≡_};
 ghost use Prim.Native.Nat.{_*_, _<_};
 ghost use lib.ListN.{length};
 ghost use Rattle.terms.specs.declared.Kind.the-variants.{Apart};
-ghost use Rattle.terms.specs.Component.{componentsIn};
+ghost use Rattle.terms.specs.Seams.{componentsIn};
 ghost use Rattle.folding.specs.Calls.{measuredAnswer};
 ghost use Rattle.layout.specs.Plan.{StackLists};
 ghost use Rattle.best.specs.Asks.{Foldable, Replannable, Written, CellsAsk, CellsOf, Unfolded};
 use folding::Measured;
 use group::NONE;
+use numbers::gap;
 use numbers::get;
 use numbers::larger;
 use terms::Kind;
@@ -72,7 +73,7 @@ pub fn flat_of(h: &[u16], w: &[u16], g: &[u16]) -> Flat
     Flat {
         widest: Slices(sizes.widest.0),
         tallest: Rows(cells.tallest.0),
-        height: Rows(sizes.tall.0 + get(g, n - 1)),
+        height: Rows(sizes.tall.0 + gap(g, n - 1)),
         cells: cells.count,
     }
 }

@@ -9,7 +9,7 @@ use lib.Seq.{length-take-le}
 use Rattle.terms.specs.declared.Component.{Component}
 use Rattle.terms.specs.declared.Kind.{Kind}
 use Rattle.terms.specs.Answer.{Answer, refusal, result}
-use Rattle.terms.specs.Component.{componentsIn}
+use Rattle.terms.specs.Seams.{componentsIn}
 use Rattle.stack.specs.File.{checkOf}
 use Rattle.stack.proofs.Reading.{Held, components-held}
 use Rattle.folding.specs.declared.Outline.{Outline}
@@ -53,13 +53,13 @@ module _ (kind : Kind) (n limit : ℕ) (hs ws gs out work : List ℕ) (f : First
   l = lent limit (length out) (length work) n n m e
 
   pub search-asks : Plannable kind (take n hs) (take n ws) (take n gs) work × (limit ≤ 2000000) × (3 * length (take n hs) ≤ length out)
-  search-asks = (record { lists = f .lists; some = omega (arith, n-is, f .some); room = l .work-room }, l .high, omega (arith, n-is, l .room))
+  search-asks = (record { lists = f .lists; some = omega (arith, n-is, f .some); free = f .free; room = l .work-room }, l .high, omega (arith, n-is, l .room))
 
   abbrev cs : List Component
   cs = componentsIn (take n hs) (take n ws) (take n gs)
 
   stack-first : Stacked cs
-  stack-first = stacked kind (take n hs) (take n ws) (take n gs) (f .lists) (omega (arith, n-is, f .some))
+  stack-first = stacked kind (take n hs) (take n ws) (take n gs) (f .lists) (omega (arith, n-is, f .some)) (f .free)
 
   passes : foldChecks limit (length out) (length work) n cs ≡ result cs
   passes = sym (all-well limit (length out) (length work) n cs (l .low) (l .high) (l .room) (l .work-room))

@@ -33,8 +33,8 @@ roomChecks out work n v = refuseIf (ltb (out / 3) n) 8 (workCheck work v)
 abbrev pub foldChecks : {A : Type 0} → ℕ → ℕ → ℕ → ℕ → A → Answer A
 foldChecks limit out work n v = refuseIf (not (inLimit limit)) 7 (roomChecks out work n v)
 
--- "Input is valid and buffers are long enough for a call where none of its refusals but 9 applies": refusals 1 to 8 in
--- document 01's order, or the stack's components.
+-- "Input is valid and buffers are long enough for a call where none of its refusals but 9 applies": the file's own
+-- refusals, then 7 and 8, or the stack's components.
 abbrev pub validOf : Kind → List ℕ → ℕ → List ℕ → List ℕ → Answer (List Component)
 validOf kind file limit out work = andThen (checkOf kind file) (λ cs. foldChecks limit (length out) (length work) (length cs) cs)
 

@@ -2,13 +2,15 @@
 use Prim.Native.Nat.{ℕ, _+_, _≤_, _<_}
 use mathlib.Core.Path.{_≡_}
 use mathlib.Core.List.{List}
+use mathlib.Core.Bool.{true}
 use lib.ListN.{length, take}
 use Rattle.terms.specs.Numbers.{mostLimit}
 use Rattle.terms.specs.declared.Component.{Component}
 use Rattle.terms.specs.declared.Kind.{Kind}
 use Rattle.terms.specs.Answer.{Answer}
-use Rattle.terms.specs.Component.{componentsIn}
+use Rattle.terms.specs.Seams.{componentsIn}
 use Rattle.folding.specs.declared.Outline.{Outline}
+use Rattle.group.specs.Group.{unbarred}
 use Rattle.layout.specs.Layout.{layoutOf}
 use Rattle.layout.specs.Plan.{StackLists}
 use Rattle.plan.specs.Asks.{PlanAsks}
@@ -20,9 +22,10 @@ use Rattle.fold.specs.Calls.{foldChecks, Wanted, Answered}
 pub record FirstLists (kind : Kind) (n : ℕ) (hs ws gs : List ℕ) : Type 0 where
   pub heights-long : n ≤ length hs
   pub widths-long : n ≤ length ws
-  pub gaps-long : n ≤ length gs
+  pub seams-long : n ≤ length gs
   pub some : 0 < n
   pub lists : StackLists kind (take n hs) (take n ws) (take n gs)
+  pub free : unbarred (componentsIn (take n hs) (take n ws) (take n gs)) ≡ true
 
 -- What a fold call answers for the stack in the first n entries of three lists: its checks behind the file's own refusals,
 -- and then the search.

@@ -3,7 +3,7 @@ ghost use mathlib.Core.Path.{_≡_};
 ghost use Prim.Native.Nat.{_*_, _≤_, _<_};
 ghost use Rattle.terms.specs.Numbers.{mostLimit};
 ghost use Rattle.terms.specs.Answer.{countAnswer};
-ghost use Rattle.terms.specs.Component.{componentsIn};
+ghost use Rattle.terms.specs.Seams.{componentsIn};
 ghost use Rattle.folding.specs.Calls.{measuredAnswer};
 ghost use Rattle.best.specs.Asks.{Foldable, Written, mostCells};
 ghost use Rattle.fold.specs.Calls.{roomChecks, foldChecks, byHeight, byWidth, Searched, ToHeight, ToWidth};
@@ -335,7 +335,7 @@ pub fn to_height(
     let mut h = [0u16; MOST_APART];
     let mut w = [0u16; MOST_APART];
     let mut g = [0u16; MOST_APART];
-    match stack::read_as(file, kind, &mut h, &mut w, &mut g) {
+    match stack::read_seams(file, kind, &mut h, &mut w, &mut g) {
         Counted::Refused(k) => Measured::Refused(k),
         Counted::Count(n) => first_to_height(kind, n, limit, &h, &w, &g, out, work),
     }
@@ -354,7 +354,7 @@ pub fn to_width(
     let mut h = [0u16; MOST_APART];
     let mut w = [0u16; MOST_APART];
     let mut g = [0u16; MOST_APART];
-    match stack::read_as(file, kind, &mut h, &mut w, &mut g) {
+    match stack::read_seams(file, kind, &mut h, &mut w, &mut g) {
         Counted::Refused(k) => Measured::Refused(k),
         Counted::Count(n) => first_to_width(kind, n, limit, &h, &w, &g, out, work),
     }

@@ -10,8 +10,8 @@ use Rattle.folding.specs.declared.Outline.{Outline}
 use Rattle.folding.specs.Best.{SmallestArea}
 use Rattle.fold.specs.Calls.{roomChecks, Wanted, Answered}
 
--- "The call borrows and refuses as the folds do, without 7 and 9": refusals 1 to 6 and 8 in document 01's order, or the
--- stack's components.
+-- "The call borrows and refuses as the folds do, without 7 and 9": the file's own refusals, then 8, or the stack's
+-- components.
 abbrev pub areaValidOf : Kind → List ℕ → List ℕ → List ℕ → Answer (List Component)
 areaValidOf kind file out work = andThen (checkOf kind file) (λ cs. roomChecks (length out) (length work) (length cs) cs)
 

@@ -7,7 +7,8 @@ use Rattle.terms.specs.Numbers.{mostLimit}
 use Rattle.terms.specs.declared.Component.{Component}
 use Rattle.terms.specs.declared.Kind.{Kind}
 use Rattle.terms.specs.Answer.{Answer}
-use Rattle.terms.specs.Component.{componentsIn, cellSum, tallest}
+use Rattle.terms.specs.Component.{cellSum, tallest}
+use Rattle.terms.specs.Seams.{componentsIn}
 use Rattle.folding.specs.declared.Outline.{Outline}
 use Rattle.folding.specs.declared.Placement.{Placement}
 use Rattle.folding.specs.Legal.{Legal}

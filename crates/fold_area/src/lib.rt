@@ -2,7 +2,7 @@
 ghost use mathlib.Core.Path.{_≡_};
 ghost use Prim.Native.Nat.{_*_, _≤_, _<_};
 ghost use Rattle.terms.specs.Numbers.{mostLimit};
-ghost use Rattle.terms.specs.Component.{componentsIn};
+ghost use Rattle.terms.specs.Seams.{componentsIn};
 ghost use Rattle.folding.specs.Best.{areaOf};
 ghost use Rattle.folding.specs.Calls.{measuredAnswer};
 ghost use Rattle.model.specs.Area.{smallerOf, nextLimit};
@@ -279,7 +279,7 @@ pub fn smallest_area(file: &[u8], kind: Kind, out: &mut [u32], work: &mut [u32])
     let mut h = [0u16; MOST_APART];
     let mut w = [0u16; MOST_APART];
     let mut g = [0u16; MOST_APART];
-    match stack::read_as(file, kind, &mut h, &mut w, &mut g) {
+    match stack::read_seams(file, kind, &mut h, &mut w, &mut g) {
         Counted::Refused(k) => Measured::Refused(k),
         Counted::Count(n) => first_smallest(kind, n, &h, &w, &g, out, work),
     }

@@ -11,7 +11,8 @@ use Rattle.terms.proofs.Order.{order}
 use Rattle.terms.specs.declared.Component.{Component}
 use Rattle.terms.specs.declared.Kind.{Kind}
 use Rattle.terms.specs.Answer.{Answer, refusal, result}
-use Rattle.terms.specs.Component.{componentsIn, widthSum}
+use Rattle.terms.specs.Component.{widthSum}
+use Rattle.terms.specs.Seams.{componentsIn}
 use Rattle.stack.specs.File.{checkOf}
 use Rattle.stack.proofs.Reading.{Held, components-held}
 use Rattle.folding.specs.declared.Outline.{Outline}
@@ -270,7 +271,7 @@ module _ (kind : Kind) (out work : List ℕ) where
   of-file h out′ work′ answer a = rw (h .checked) (rw (components-held h) at a)
 
 pub list-asks : (kind : Kind) (n : ℕ) (hs ws gs work : List ℕ) → FirstLists kind n hs ws gs → 8192 ≤ length work → Plannable kind (take n hs) (take n ws) (take n gs) work
-list-asks kind n hs ws gs work f h = record { lists = f .lists; some = omega (arith, length-take-le n hs (f .heights-long), f .some); room = h }
+list-asks kind n hs ws gs work f h = record { lists = f .lists; some = omega (arith, length-take-le n hs (f .heights-long), f .some); free = f .free; room = h }
 
 -- A call that its checks refuse answers so, and leaves what was lent as it was.
 pub refused-call : (kind : Kind) (out work out′ work′ : List ℕ) (answer : Answer ℕ) (k : ℕ) (valid : Answer (List Component)) → valid ≡ refusal k → TableAnswered kind out work out′ work′ answer valid
@@ -296,4 +297,4 @@ module _ (kind : Kind) (cs : List Component) (os : List Outline) (l : Listing ki
 
 -- The stack that is planned.
 pub stacked-asks : {kind : Kind} {limit : ℕ} {hs ws gs widths heights ends es : List ℕ} → PlanAsks kind limit hs ws gs widths heights ends es → Stacked (componentsIn hs ws gs)
-stacked-asks {kind} {hs = hs} {ws = ws} {gs = gs} a = stacked kind hs ws gs (a .lists) (a .some)
+stacked-asks {kind} {hs = hs} {ws = ws} {gs = gs} a = stacked kind hs ws gs (a .lists) (a .some) (a .free)

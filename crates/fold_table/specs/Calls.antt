@@ -14,8 +14,7 @@ use Rattle.folding.specs.declared.Outline.{Outline}
 use Rattle.folding.specs.Best.{Listing}
 use Rattle.fold.specs.Calls.{workCheck}
 
--- Refusals 1 to 6 and 8 in document 01's order, as far as they can be told before the outlines are counted, or the stack's
--- components.
+-- The file's own refusals, then 8 as far as it can be told before the outlines are counted, or the stack's components.
 abbrev pub tableValidOf : Kind → List ℕ → List ℕ → Answer (List Component)
 tableValidOf kind file work = andThen (checkOf kind file) (λ cs. workCheck (length work) cs)
 

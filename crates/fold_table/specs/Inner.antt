@@ -7,7 +7,7 @@ use Rattle.terms.specs.Numbers.{mostLimit, leastWork}
 use Rattle.terms.specs.declared.Component.{Component}
 use Rattle.terms.specs.declared.Kind.{Kind}
 use Rattle.terms.specs.Answer.{Answer}
-use Rattle.terms.specs.Component.{componentsIn}
+use Rattle.terms.specs.Seams.{componentsIn}
 use Rattle.folding.specs.declared.Outline.{Outline}
 use Rattle.layout.specs.Table.{outlines}
 use Rattle.plan.specs.Asks.{planRoom}

@@ -5,7 +5,7 @@ ghost use Prim.Native.Nat.{_+_, _≤_};
 ghost use lib.ListN.{length, take, drop};
 ghost use Rattle.terms.specs.Numbers.{mostLimit};
 ghost use Rattle.terms.specs.Answer.{countAnswer};
-ghost use Rattle.terms.specs.Component.{componentsIn};
+ghost use Rattle.terms.specs.Seams.{componentsIn};
 ghost use Rattle.fold.specs.Inner.{FirstLists};
 ghost use Rattle.plan.specs.Asks.{PlanAsks, Plannable};
 ghost use Rattle.fold_table.specs.Calls.{Tabled, TableOf};
@@ -199,7 +199,7 @@ pub fn table(file: &[u8], kind: Kind, out: &mut [u32], work: &mut [u32]) -> Coun
     let mut h = [0u16; MOST_APART];
     let mut w = [0u16; MOST_APART];
     let mut g = [0u16; MOST_APART];
-    match stack::read_as(file, kind, &mut h, &mut w, &mut g) {
+    match stack::read_seams(file, kind, &mut h, &mut w, &mut g) {
         Counted::Refused(k) => Counted::Refused(k),
         Counted::Count(n) => first_outlines(kind, n, &h, &w, &g, out, work),
     }

@@ -5,7 +5,8 @@ use mathlib.Core.List.{List, [], _∷_, _++_}
 use native.Mathlib.Omega.{arith}
 use lib.ListN.{length}
 use Rattle.terms.specs.declared.Component.{Component}
-use Rattle.terms.specs.Component.{tabulate, componentIn, componentsIn}
+use Rattle.terms.specs.Component.{tabulate}
+use Rattle.terms.specs.Seams.{componentIn, componentsIn}
 use Rattle.terms.proofs.Tabulate.{tabulate-length}
 use Rattle.folding.specs.declared.Placed.{Placed}
 use Rattle.folding.specs.declared.Placement.{Placement}
@@ -27,5 +28,5 @@ placed-tabulate f g (suc n) =
     placed-append (tabulate f n) (f n) (tabulate g n) (g n) (tabulate-length g n ∙ sym (tabulate-length f n))
     ∙ ap (λ (l : List Placed). l ++ (record { component = f n; placement = g n } ∷ [])) (placed-tabulate f g n)
 
-pub placed-lists : (hs ws gs flat : List ℕ) → placedOf (componentsIn hs ws gs) (placementsOf flat (length hs)) ≡ placedIn hs ws gs flat
-placed-lists hs ws gs flat = placed-tabulate (componentIn hs ws gs) (placementAt flat) (length hs)
+pub placed-lists : (hs ws seams flat : List ℕ) → placedOf (componentsIn hs ws seams) (placementsOf flat (length hs)) ≡ placedIn hs ws seams flat
+placed-lists hs ws seams flat = placed-tabulate (componentIn hs ws seams) (placementAt flat) (length hs)

@@ -8,10 +8,11 @@ use native.Mathlib.Omega.{arith}
 use lib.Dec.{leb, eqb}
 use borrow.Author.Tests.{leb-true, le-leb, eqb-true, eq-eqb, ne-eqb}
 use Rattle.terms.specs.declared.Kind.{Kind}
+use Rattle.terms.specs.Component.{barred}
 use Rattle.terms.proofs.Bools.{both, and-is, either, same-truth}
 use Rattle.folding.specs.declared.Placed.{Placed}
 use Rattle.folding.specs.Placement.{groupOf, startOf, endOf, left}
-use Rattle.folding.specs.Legal.{each, eachPair, inRange, sameGroup, fromZero, inOrder, fromLeft, leftFirst, leftClear, rightClear, onSide, legal}
+use Rattle.folding.specs.Legal.{each, eachPair, inRange, sameGroup, fromZero, inOrder, fromLeft, leftFirst, leftClear, rightClear, onSide, unparted, legal}
 
 -- What is asked of a component by itself.
 pub record Alone (kind : Kind) (x : Placed) : Type 0 where
@@ -44,6 +45,13 @@ nextRules x y = inOrder x y && leftFirst x y && leftClear x y && rightClear x y
 
 abbrev pub aloneRules : Kind → Placed → Bool
 aloneRules kind x = inRange x && onSide kind x
+
+-- What barred components ask of the one after them; the last of all may not be barred. A rule beside those of `LegalFrom`,
+-- which holds of each part of a folding that ends a group.
+abbrev pub Unparted : List Placed → Type 0
+Unparted [] = Unit {0}
+Unparted (x ∷ []) = barred (x .component) ≡ false
+Unparted (x ∷ y ∷ l) = (unparted x y ≡ true) × Unparted (y ∷ l)
 
 pub alone-is : (kind : Kind) (x : Placed) → aloneRules kind x ≡ true → Alone kind x
 alone-is kind x e =
@@ -124,17 +132,21 @@ follows-of kind x (y ∷ l) a f =
       sides = and-is (e .1) (later .sides);
     }
 
-first-rules : (kind : Kind) (l : List Placed) → legal kind l ≡ true → (fromZero l ≡ true) × (fromLeft l ≡ true) × Holds kind l
+first-rules : (kind : Kind) (l : List Placed) → legal kind l ≡ true → (fromZero l ≡ true) × (fromLeft l ≡ true) × Holds kind l × (eachPair unparted l ≡ true)
 unfolding legal
 first-rules kind l e =
-    let e5 = both (each inRange l && (fromZero l && eachPair inOrder l) && (fromLeft l && eachPair leftFirst l) && eachPair leftClear l && eachPair rightClear l) (each (onSide kind) l) e in
+    let e6 = both (each inRange l && (fromZero l && eachPair inOrder l) && (fromLeft l && eachPair leftFirst l) && eachPair leftClear l && eachPair rightClear l && each (onSide kind) l) (eachPair unparted l) e in
+    let e5 = both (each inRange l && (fromZero l && eachPair inOrder l) && (fromLeft l && eachPair leftFirst l) && eachPair leftClear l && eachPair rightClear l) (each (onSide kind) l) (e6 .0) in
     let e4 = both (each inRange l && (fromZero l && eachPair inOrder l) && (fromLeft l && eachPair leftFirst l) && eachPair leftClear l) (eachPair rightClear l) (e5 .0) in
     let e3 = both (each inRange l && (fromZero l && eachPair inOrder l) && (fromLeft l && eachPair leftFirst l)) (eachPair leftClear l) (e4 .0) in
     let e2 = both (each inRange l && (fromZero l && eachPair inOrder l)) (fromLeft l && eachPair leftFirst l) (e3 .0) in
     let e1 = both (each inRange l) (fromZero l && eachPair inOrder l) (e2 .0) in
     let z = both (fromZero l) (eachPair inOrder l) (e1 .1) in
     let f = both (fromLeft l) (eachPair leftFirst l) (e2 .1) in
-    (z .0, f .0, record { ranges = e1 .0; order = z .1; lefts = f .1; clear-left = e3 .1; clear-right = e4 .1; sides = e5 .1 })
+    (z .0, f .0, record { ranges = e1 .0; order = z .1; lefts = f .1; clear-left = e3 .1; clear-right = e4 .1; sides = e5 .1 }, e6 .1)
+
+pub legal-unparted : (kind : Kind) (l : List Placed) → legal kind l ≡ true → eachPair unparted l ≡ true
+legal-unparted kind l e = first-rules kind l e .3
 
 pub legal-holds : (kind : Kind) (l : List Placed) → legal kind l ≡ true → Holds kind l
 legal-holds kind l e = first-rules kind l e .2
@@ -146,38 +158,64 @@ legal-is kind (x ∷ l) e =
     let r = follows-is kind x l (f .2) in
     (eqb-true _ _ (f .0), f .1, r .0, r .1)
 
-pub legal-of : (kind : Kind) (l : List Placed) → LegalFrom kind 0 l → legal kind l ≡ true
+pub legal-of : (kind : Kind) (l : List Placed) → LegalFrom kind 0 l → eachPair unparted l ≡ true → legal kind l ≡ true
 unfolding legal each eachPair
-legal-of kind [] f = refl
-legal-of kind (x ∷ l) f =
+legal-of kind [] f u = refl
+legal-of kind (x ∷ l) f u =
     let h = follows-of kind x l (f .2) (f .3) in
     and-is
+    (and-is
     (and-is (and-is (and-is (and-is (h .ranges) (and-is (eq-eqb _ _ (f .0)) (h .order))) (and-is (f .1) (h .lefts))) (h .clear-left)) (h .clear-right))
-    (h .sides)
+    (h .sides))
+    u
+
+-- The rule of marks as one about neighbours, and with the last one beside it.
+pub unparted-pairs : (l : List Placed) → Unparted l → eachPair unparted l ≡ true
+unfolding eachPair
+unparted-pairs [] u = refl
+unparted-pairs (x ∷ []) u = refl
+unparted-pairs (x ∷ y ∷ l) u = and-is (u .0) (unparted-pairs (y ∷ l) (u .1))
+
+-- The last one is not barred.
+abbrev pub LastFree : List Placed → Type 0
+LastFree [] = Unit {0}
+LastFree (x ∷ []) = barred (x .component) ≡ false
+LastFree (x ∷ y ∷ l) = LastFree (y ∷ l)
+
+pub pairs-unparted : (l : List Placed) → eachPair unparted l ≡ true → LastFree l → Unparted l
+unfolding eachPair
+pairs-unparted [] e f = tt
+pairs-unparted (x ∷ []) e f = f
+pairs-unparted (x ∷ y ∷ l) e f = let b = both (unparted x y) (eachPair unparted (y ∷ l)) e in (b .0, pairs-unparted (y ∷ l) (b .1) f)
 
 -- One pass over the placements: what is left to be checked behind x.
 unfoldable pub passes : Kind → Placed → List Placed → Bool
 passes kind x [] = true
-passes kind x (y ∷ l) = aloneRules kind y && nextRules x y && passes kind y l
+passes kind x (y ∷ l) = aloneRules kind y && nextRules x y && unparted x y && passes kind y l
 
-passes-is : (kind : Kind) (x : Placed) (l : List Placed) → passes kind x l ≡ true → Follows kind x l
-unfolding passes
-passes-is kind x [] e = tt
+passes-is : (kind : Kind) (x : Placed) (l : List Placed) → passes kind x l ≡ true → Follows kind x l × (eachPair unparted (x ∷ l) ≡ true)
+unfolding passes eachPair
+passes-is kind x [] e = (tt, refl)
 passes-is kind x (y ∷ l) e =
-    let a = both (aloneRules kind y && nextRules x y) (passes kind y l) e in
-    let b = both (aloneRules kind y) (nextRules x y) (a .0) in
-    (next-is x y (b .1), alone-is kind y (b .0), passes-is kind y l (a .1))
+    let a = both (aloneRules kind y && nextRules x y && unparted x y) (passes kind y l) e in
+    let d = both (aloneRules kind y && nextRules x y) (unparted x y) (a .0) in
+    let b = both (aloneRules kind y) (nextRules x y) (d .0) in
+    let later = passes-is kind y l (a .1) in
+    ((next-is x y (b .1), alone-is kind y (b .0), later .0), and-is (d .1) (later .1))
 
-passes-of : (kind : Kind) (x : Placed) (l : List Placed) → Follows kind x l → passes kind x l ≡ true
-unfolding passes
-passes-of kind x [] f = refl
-passes-of kind x (y ∷ l) f = and-is (and-is (alone-of kind y (f .1)) (next-of x y (f .0))) (passes-of kind y l (f .2))
+passes-of : (kind : Kind) (x : Placed) (l : List Placed) → Follows kind x l → eachPair unparted (x ∷ l) ≡ true → passes kind x l ≡ true
+unfolding passes eachPair
+passes-of kind x [] f u = refl
+passes-of kind x (y ∷ l) f u =
+    let b = both (unparted x y) (eachPair unparted (y ∷ l)) u in
+    and-is (and-is (and-is (alone-of kind y (f .1)) (next-of x y (f .0))) (b .0)) (passes-of kind y l (f .2) (b .1))
 
 pub legal-passes : (kind : Kind) (x : Placed) (l : List Placed) → legal kind (x ∷ l) ≡ (eqb (groupOf x) 0 && left x && aloneRules kind x && passes kind x l)
 legal-passes kind x l = same-truth _ _
-    (λ e. let f = legal-is kind (x ∷ l) e in and-is (and-is (and-is (eq-eqb _ _ (f .0)) (f .1)) (alone-of kind x (f .2))) (passes-of kind x l (f .3)))
+    (λ e. let f = legal-is kind (x ∷ l) e in and-is (and-is (and-is (eq-eqb _ _ (f .0)) (f .1)) (alone-of kind x (f .2))) (passes-of kind x l (f .3) (legal-unparted kind (x ∷ l) e)))
     (λ e.
     let a = both (eqb (groupOf x) 0 && left x && aloneRules kind x) (passes kind x l) e in
     let b = both (eqb (groupOf x) 0 && left x) (aloneRules kind x) (a .0) in
     let c = both (eqb (groupOf x) 0) (left x) (b .0) in
-    legal-of kind (x ∷ l) (eqb-true _ _ (c .0), c .1, alone-is kind x (b .1), passes-is kind x l (a .1)))
+    let p = passes-is kind x l (a .1) in
+    legal-of kind (x ∷ l) (eqb-true _ _ (c .0), c .1, alone-is kind x (b .1), p .0) (p .1))

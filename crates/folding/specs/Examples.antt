@@ -17,7 +17,11 @@ use Rattle.folding.specs.Legal.{Legal, each, eachPair, legal}
 use Rattle.folding.specs.Outline.{groupsOf, topOf, rowSum, greatest, lastGap, folded, foldGap, layoutWidth, layoutHeight, outlineOf}
 
 abbrev pub c : ℕ → ℕ → ℕ → Component
-c h w g = record { height = record { 0 = h }; width = record { 0 = w }; gap = record { 0 = g } }
+c h w g = record { height = record { 0 = h }; width = record { 0 = w }; gap = record { 0 = g }; mark = 0 }
+
+-- With mark 1: a fold after it is barred.
+abbrev pub b : ℕ → ℕ → ℕ → Component
+b h w g = record { height = record { 0 = h }; width = record { 0 = w }; gap = record { 0 = g }; mark = 1 }
 
 abbrev pub p : ℕ → ℕ → ℕ → Placement
 p group side start = record { group = group; side = side; start = start }
@@ -179,6 +183,80 @@ apart-right = refl
 nested-right : legal Nested (placedOf stack-C (p 0 0 0 ∷ p 0 1 0 ∷ [])) ≡ true
 unfolding placedOf legal each eachPair
 nested-right = refl
+
+-- Ticket 3: B and E with their second component barred.
+abbrev barred-B : List Component
+barred-B = c 3 1 0 ∷ b 1 1 0 ∷ c 2 1 0 ∷ c 4 1 0 ∷ []
+
+abbrev barred-E : List Component
+barred-E = c 1 3 0 ∷ b 1 1 0 ∷ c 1 1 0 ∷ c 1 3 0 ∷ []
+
+-- The folding of B-apart-2-6 has the barred component and its successor in two groups.
+two-groups : legal Apart (placedOf barred-B (p 0 0 1 ∷ p 0 0 0 ∷ p 1 0 4 ∷ p 1 0 0 ∷ [])) ≡ false
+unfolding placedOf legal each eachPair
+two-groups = refl
+
+-- That of E-nested-3-3 has them on the two sides of one.
+two-sides : legal Nested (placedOf barred-E (p 0 0 1 ∷ p 0 0 0 ∷ p 0 1 0 ∷ p 0 1 2 ∷ [])) ≡ false
+unfolding placedOf legal each eachPair
+two-sides = refl
+
+-- Measuring refuses these two as broken.
+two-groups-refused : measureIn Apart barred-B (0 ∷ 0 ∷ 1 ∷ 0 ∷ 0 ∷ 0 ∷ 1 ∷ 0 ∷ 4 ∷ 1 ∷ 0 ∷ 0 ∷ []) ≡ refusal 10
+unfolding measureIn tabulate placedOf legal each eachPair
+two-groups-refused = refl
+
+two-sides-refused : measureIn Nested barred-E (0 ∷ 0 ∷ 1 ∷ 0 ∷ 0 ∷ 0 ∷ 0 ∷ 1 ∷ 0 ∷ 0 ∷ 1 ∷ 2 ∷ []) ≡ refusal 10
+unfolding measureIn tabulate placedOf legal each eachPair
+two-sides-refused = refl
+
+-- The folding of E-nested-6-2 has them on two sides too, in a later group.
+two-sides-later : legal Nested (placedOf barred-E (p 0 0 0 ∷ p 1 0 0 ∷ p 1 1 0 ∷ p 1 1 1 ∷ [])) ≡ false
+unfolding placedOf legal each eachPair
+two-sides-later = refl
+
+-- Empty rows between the two are allowed, on the left and on the right.
+barred-left-gap : legal Apart (placedOf barred-B (p 0 0 90 ∷ p 0 0 60 ∷ p 0 0 40 ∷ p 0 0 10 ∷ [])) ≡ true
+unfolding placedOf legal each eachPair
+barred-left-gap = refl
+
+barred-right-gap : legal Nested (placedOf barred-B (p 0 0 0 ∷ p 0 1 5 ∷ p 0 1 60 ∷ p 0 1 100 ∷ [])) ≡ true
+unfolding placedOf legal each eachPair
+barred-right-gap = refl
+
+-- What B apart and E nested come to: a fold or a group's end may still stand before the two and behind them.
+barred-B-apart-1-10 : Folds Apart barred-B (p 0 0 7 ∷ p 0 0 6 ∷ p 0 0 4 ∷ p 0 0 0 ∷ []) 1 10
+unfolding placedOf legal each eachPair groupsOf topOf rowSum greatest lastGap folded foldGap layoutWidth layoutHeight
+barred-B-apart-1-10 = record { is-legal = record { whole = refl; rules = refl }; has = refl }
+
+barred-B-apart-2-6 : Folds Apart barred-B (p 0 0 3 ∷ p 0 0 2 ∷ p 0 0 0 ∷ p 1 0 0 ∷ []) 2 6
+unfolding placedOf legal each eachPair groupsOf topOf rowSum greatest lastGap folded foldGap layoutWidth layoutHeight
+barred-B-apart-2-6 = record { is-legal = record { whole = refl; rules = refl }; has = refl }
+
+barred-B-apart-3-4 : Folds Apart barred-B (p 0 0 0 ∷ p 1 0 2 ∷ p 1 0 0 ∷ p 2 0 0 ∷ []) 3 4
+unfolding placedOf legal each eachPair groupsOf topOf rowSum greatest lastGap folded foldGap layoutWidth layoutHeight
+barred-B-apart-3-4 = record { is-legal = record { whole = refl; rules = refl }; has = refl }
+
+barred-E-nested-3-4 : Folds Nested barred-E (p 0 0 3 ∷ p 0 0 2 ∷ p 0 0 1 ∷ p 0 0 0 ∷ []) 3 4
+unfolding placedOf legal each eachPair groupsOf topOf rowSum greatest lastGap folded foldGap layoutWidth layoutHeight
+barred-E-nested-3-4 = record { is-legal = record { whole = refl; rules = refl }; has = refl }
+
+barred-E-nested-4-3 : Folds Nested barred-E (p 0 0 0 ∷ p 0 1 0 ∷ p 0 1 1 ∷ p 0 1 2 ∷ []) 4 3
+unfolding placedOf legal each eachPair groupsOf topOf rowSum greatest lastGap folded foldGap layoutWidth layoutHeight
+barred-E-nested-4-3 = record { is-legal = record { whole = refl; rules = refl }; has = refl }
+
+barred-E-nested-7-2 : Folds Nested barred-E (p 0 0 0 ∷ p 1 0 1 ∷ p 1 0 0 ∷ p 1 1 0 ∷ []) 7 2
+unfolding placedOf legal each eachPair groupsOf topOf rowSum greatest lastGap folded foldGap layoutWidth layoutHeight
+barred-E-nested-7-2 = record { is-legal = record { whole = refl; rules = refl }; has = refl }
+
+-- A gap behind a barred component counts for nothing, on the left and on the right.
+barred-gap-left : Folds Apart (b 1 1 5 ∷ c 1 1 0 ∷ []) (p 0 0 1 ∷ p 0 0 0 ∷ []) 1 2
+unfolding placedOf legal each eachPair groupsOf topOf rowSum greatest lastGap folded foldGap layoutWidth layoutHeight
+barred-gap-left = record { is-legal = record { whole = refl; rules = refl }; has = refl }
+
+barred-gap-right : Folds Nested (c 1 1 0 ∷ b 1 1 5 ∷ c 1 1 0 ∷ []) (p 0 0 0 ∷ p 0 1 0 ∷ p 0 1 1 ∷ []) 2 2
+unfolding placedOf legal each eachPair groupsOf topOf rowSum greatest lastGap folded foldGap layoutWidth layoutHeight
+barred-gap-right = record { is-legal = record { whole = refl; rules = refl }; has = refl }
 
 -- Without a fold both gaps add: the one before a later group too. Group 1 is 1 + 4 + 6 rows high.
 gap-before-and-behind : Folds Apart (c 1 1 4 ∷ c 1 1 6 ∷ c 1 1 0 ∷ []) (p 0 0 0 ∷ p 1 0 0 ∷ p 2 0 0 ∷ []) 3 11

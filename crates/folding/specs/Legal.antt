@@ -1,5 +1,5 @@
--- Which foldings are legal (document 01, "Foldings"): "when all numbers are in these ranges and" each of the rules below
--- holds.
+-- Which foldings are legal (document 01, "Foldings"; ticket 3): "when all numbers are in these ranges and" each of the rules
+-- below holds.
 use Prim.Native.Nat.{ℕ, _+_}
 use mathlib.Core.Path.{_≡_}
 use mathlib.Core.List.{List, [], _∷_}
@@ -9,6 +9,7 @@ use lib.Dec.{leb, eqb}
 use Rattle.terms.specs.declared.Component.{Component}
 use Rattle.terms.specs.declared.Kind.{Kind}
 use Rattle.terms.specs.declared.Kind.the-variants.{Apart, Nested}
+use Rattle.terms.specs.Component.{barred}
 use Rattle.folding.specs.declared.Placed.{Placed}
 use Rattle.folding.specs.declared.Placement.{Placement}
 use Rattle.folding.specs.Placement.{groupOf, startOf, endOf, left, placedOf}
@@ -64,6 +65,13 @@ abbrev pub onSide : Kind → Placed → Bool
 onSide Apart x = left x
 onSide Nested x = true
 
+abbrev pub sameSide : Placed → Placed → Bool
+sameSide x y = eqb (y .placement .side) (x .placement .side)
+
+-- Ticket 3: "Where a mark is 1, the component and its successor have the same group and side".
+abbrev pub unparted : Placed → Placed → Bool
+unparted x y = not (barred (x .component)) || (sameGroup x y && sameSide x y)
+
 unfoldable pub legal : Kind → List Placed → Bool
 legal kind l =
     each inRange l
@@ -72,6 +80,7 @@ legal kind l =
     && eachPair leftClear l
     && eachPair rightClear l
     && each (onSide kind) l
+    && eachPair unparted l
 
 -- A folding of a stack: a placement for each component, and legal.
 pub record Legal (kind : Kind) (cs : List Component) (ps : List Placement) : Type 0 where

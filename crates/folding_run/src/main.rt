@@ -47,6 +47,14 @@ const GAPPED: [u8; 25] =
 // Heights 2, 3, widths 4, 5, gaps 7, 0.
 const SHORT: [u8; 19] = *b"STK\x01\x00\x02\x00\x02\x00\x04\x00\x07\x00\x03\x00\x05\x00\x00\x00";
 
+// As PLAIN, with a fold barred after the second component and a gap of 9 there.
+const BARRED: [u8; 39] =
+    *b"STK\x02\0\x04\0\x03\0\x01\0\0\0\0\0\x01\0\x01\0\x09\0\x01\0\x02\0\x01\0\0\0\0\0\x04\0\x01\0\0\0\0\0";
+
+// As GAPPED, with a fold barred after the first component.
+const BARRED_GAPPED: [u8; 31] =
+    *b"STK\x02\x00\x03\x00\x02\x00\x04\x00\x07\x00\x01\x00\x03\x00\x05\x00\x08\x00\x00\x00\x01\x00\x06\x00\x00\x00\x00\x00";
+
 fn plain_case(label: &[u8], kind: Kind, flat: &[u32]) {
     say(label);
     say_line(measure::measure(&PLAIN, kind, flat));
@@ -55,6 +63,12 @@ fn plain_case(label: &[u8], kind: Kind, flat: &[u32]) {
 fn gapped_case(label: &[u8], kind: Kind, flat: &[u32]) {
     say(label);
     say_line(measure::measure(&GAPPED, kind, flat));
+}
+
+fn barred_case(label: &[u8], kind: Kind, flat: &[u32]) {
+    say(b"barred, ");
+    say(label);
+    say_line(measure::measure(&BARRED, kind, flat));
 }
 
 fn range_cases() {
@@ -195,6 +209,72 @@ fn gap_cases() {
     );
 }
 
+// Each way to part a barred component from its successor.
+fn parted_cases() {
+    barred_case(
+        b"two groups",
+        Kind::Apart,
+        &[0, 0, 1, 0, 0, 0, 1, 0, 4, 1, 0, 0],
+    );
+    barred_case(
+        b"two groups in nested",
+        Kind::Nested,
+        &[0, 0, 0, 0, 1, 0, 1, 0, 4, 1, 0, 0],
+    );
+    barred_case(
+        b"two sides",
+        Kind::Nested,
+        &[0, 0, 1, 0, 0, 0, 0, 1, 0, 0, 1, 2],
+    );
+    barred_case(
+        b"two sides of the second group",
+        Kind::Nested,
+        &[0, 0, 0, 1, 0, 0, 1, 1, 0, 1, 1, 2],
+    );
+}
+
+// The two together, with empty rows between them, and with groups and folds around them. Their gap counts for nothing.
+fn unparted_cases() {
+    barred_case(
+        b"empty rows on the left",
+        Kind::Apart,
+        &[0, 0, 9, 0, 0, 8, 0, 0, 4, 1, 0, 0],
+    );
+    barred_case(
+        b"empty rows on the right",
+        Kind::Nested,
+        &[0, 0, 0, 0, 1, 0, 0, 1, 4, 0, 1, 6],
+    );
+    barred_case(
+        b"a group of their own",
+        Kind::Apart,
+        &[0, 0, 0, 1, 0, 2, 1, 0, 0, 2, 0, 0],
+    );
+    barred_case(
+        b"a fold before",
+        Kind::Nested,
+        &[0, 0, 0, 0, 1, 0, 0, 1, 1, 1, 0, 0],
+    );
+    barred_case(
+        b"a fold behind",
+        Kind::Nested,
+        &[0, 0, 3, 0, 0, 2, 0, 0, 0, 0, 1, 0],
+    );
+}
+
+fn written_case() {
+    let mut file = [0u8; 39];
+    stack_write::write(
+        &[3, 1, 2, 4],
+        &[1; 4],
+        &[0, 9, 0, 0],
+        &[0, 1, 0, 0],
+        &mut file,
+    );
+    say(b"barred, as written");
+    say_line(measure::measure(&file, Kind::Apart, &[0, 0, 1, 0, 0, 0, 1, 0, 4, 1, 0, 0]));
+}
+
 fn length_cases() {
     gapped_case(
         b"an incomplete placement",
@@ -225,8 +305,8 @@ fn number_groups(flat: &mut [u32], n: u32)
 fn nested_64() {
     let ones = [1u16; 64];
     let zeros = [0u16; 64];
-    let mut file = [0u8; 391];
-    stack_write::write(&ones, &ones, &zeros, &mut file);
+    let mut file = [0u8; 519];
+    stack_write::write(&ones, &ones, &zeros, &zeros, &mut file);
     let mut flat = [0u32; 192];
     number_groups(&mut flat, 64);
     say(b"64 nested");
@@ -236,8 +316,8 @@ fn nested_64() {
 fn apart_256() {
     let ones = [1u16; 256];
     let zeros = [0u16; 256];
-    let mut file = [0u8; 1543];
-    stack_write::write(&ones, &ones, &zeros, &mut file);
+    let mut file = [0u8; 2055];
+    stack_write::write(&ones, &ones, &zeros, &zeros, &mut file);
     let mut flat = [0u32; 768];
     number_groups(&mut flat, 256);
     say(b"256 apart");
@@ -262,8 +342,8 @@ fn too_many() {
 fn nested_65() {
     let ones = [1u16; 65];
     let zeros = [0u16; 65];
-    let mut file = [0u8; 397];
-    stack_write::write(&ones, &ones, &zeros, &mut file);
+    let mut file = [0u8; 527];
+    stack_write::write(&ones, &ones, &zeros, &zeros, &mut file);
     let mut flat = [0u32; 195];
     number_groups(&mut flat, 65);
     say(b"65 nested");
@@ -349,6 +429,35 @@ fn refused_choose_cases() {
         Kind::Apart,
         &[0, 0, 0, 1, 0, 0, 2, 0, 0, 8],
         &[0, 0, 4, 0, 0, 1, 0, 0, 0, 9, 9],
+    );
+}
+
+fn barred_choice<'a>(label: &[u8], first: &'a [u32], second: &'a [u32]) {
+    say(b"barred, ");
+    say(label);
+    say_list(measure::choose(&BARRED, Kind::Apart, first, second));
+}
+
+fn barred_choices() {
+    barred_choice(
+        b"empty rows first",
+        &[0, 0, 9, 0, 0, 8, 0, 0, 4, 0, 0, 0],
+        &[0, 0, 3, 0, 0, 2, 0, 0, 0, 1, 0, 0],
+    );
+    barred_choice(
+        b"empty rows second",
+        &[0, 0, 0, 1, 0, 2, 1, 0, 0, 2, 0, 0],
+        &[0, 0, 9, 0, 0, 8, 0, 0, 4, 1, 0, 0],
+    );
+    barred_choice(
+        b"parted first",
+        &[0, 0, 1, 0, 0, 0, 1, 0, 4, 1, 0, 0],
+        &[0, 0, 3, 0, 0, 2, 0, 0, 0, 1, 0, 0],
+    );
+    barred_choice(
+        b"parted second",
+        &[0, 0, 3, 0, 0, 2, 0, 0, 0, 1, 0, 0],
+        &[0, 0, 1, 0, 0, 0, 1, 0, 4, 1, 0, 0],
     );
 }
 
@@ -458,6 +567,41 @@ fn refused_structs() {
     );
 }
 
+fn barred_structs() {
+    structs_case(
+        b"barred, two groups",
+        &BARRED_GAPPED,
+        Kind::Apart,
+        place(0, 0, 0),
+        place(1, 0, 1),
+        place(1, 0, 0),
+    );
+    structs_case(
+        b"barred, two sides",
+        &BARRED_GAPPED,
+        Kind::Nested,
+        place(0, 0, 0),
+        place(0, 1, 0),
+        place(0, 1, 3),
+    );
+    structs_case(
+        b"barred, empty rows",
+        &BARRED_GAPPED,
+        Kind::Apart,
+        place(0, 0, 9),
+        place(0, 0, 1),
+        place(0, 0, 0),
+    );
+    structs_case(
+        b"barred, a fold behind",
+        &BARRED_GAPPED,
+        Kind::Nested,
+        place(0, 0, 3),
+        place(0, 0, 0),
+        place(0, 1, 0),
+    );
+}
+
 // As many placements as components are asked for, and no more are read.
 fn count_structs() {
     structs_case(
@@ -484,6 +628,9 @@ fn main() {
     side_cases();
     start_cases();
     gap_cases();
+    parted_cases();
+    unparted_cases();
+    written_case();
     length_cases();
     nested_64();
     nested_65();
@@ -491,7 +638,9 @@ fn main() {
     too_many();
     choose_cases();
     refused_choose_cases();
+    barred_choices();
     legal_structs();
     refused_structs();
+    barred_structs();
     count_structs();
 }

@@ -1,11 +1,12 @@
--- The gaps of components do not matter to rows and start rows.
+-- Gaps and marks of components do not matter to rows and start rows.
 use Prim.Native.Nat.{ℕ, zero, suc, _+_, _≤_, _<_, min}
 use mathlib.Core.Path.{_≡_, refl, sym, ap, _∙_}
 use mathlib.Core.Logic.{_⊎_, inl, inr}
 use mathlib.Core.List.{List, [], _∷_, _++_, map, reverseAux}
 use lib.ListN.{length, take, drop}
 use Rattle.terms.specs.declared.Component.{Component}
-use Rattle.terms.specs.Component.{tabulate, componentIn, componentsIn}
+use Rattle.terms.specs.Component.{tabulate}
+use Rattle.terms.specs.Seams.{componentIn, componentsIn}
 use Rattle.group.specs.Rows.{ht, wd, tall, rows, Starts, packed, putLeft, putRight, place}
 use Rattle.group.specs.Group.{leftSide, rightSide, groupPlaces}
 use Rattle.group.specs.Table.{bare}
@@ -13,7 +14,7 @@ use Rattle.terms.proofs.Order.{order}
 use Rattle.group.proofs.Chains.{rows-left, rows-right, rows-clash, place-left, place-right, place-left-first, place-right-first}
 
 abbrev pub gapless : Component → Component
-gapless x = record { height = record { 0 = x .height .0 }; width = record { 0 = x .width .0 }; gap = record { 0 = 0 } }
+gapless x = record { height = record { 0 = x .height .0 }; width = record { 0 = x .width .0 }; gap = record { 0 = 0 }; mark = 0 }
 
 pub tall-bare : (l : List Component) → tall (map gapless l) ≡ tall l
 unfolding tall

@@ -1,18 +1,20 @@
 -- The ways in which a group may stand, and the least height over them.
 use Prim.Native.Nat.{ℕ, zero, suc, _≤_, _<_, min}
-use mathlib.Core.Path.{_≡_, refl, ap, _∙_}
+use mathlib.Core.Path.{_≡_, refl, sym, ap, _∙_}
 use mathlib.Core.Logic.{_⊎_, inl, inr}
 use mathlib.Core.List.{List, [], _∷_}
-use mathlib.Core.Bool.{Bool, true, false, true≢false, cond}
+use mathlib.Core.Bool.{Bool, true, false, true≢false, cond, _&&_}
 use native.Mathlib.Nat.{eq-or-lt-of-le, le-of-suc-le-suc}
 use native.Mathlib.Omega.{arith}
-use lib.ListN.{length}
+use lib.ListN.{length, take}
+use lib.Seq.{take-all}
 use borrow.Author.Tests.{eqb-true, eq-eqb, ne-eqb}
 use Rattle.terms.specs.declared.Component.{Component}
 use Rattle.terms.specs.declared.Kind.{Kind}
 use Rattle.terms.specs.declared.Kind.the-variants.{Apart, Nested}
 use Rattle.model.specs.Groups.{isEnd}
-use Rattle.group.specs.Group.{none, flatHeight, foldHeight, May, mayStand, wayHeight, ways, lowest, waysOf, leastHeightBy, leastCap, leastWidthBy, FoldPointBy}
+use Rattle.group.specs.Group.{none, flatHeight, foldHeight, May, onSides, unbarred, mayStand, wayHeight, ways, lowest, waysOf, leastHeightBy, leastCap, leastWidthBy, FoldPointBy}
+use Rattle.terms.proofs.Bools.{both, and-is, either}
 use Rattle.terms.proofs.Order.{order}
 
 -- p is one of a list of ways.
@@ -157,21 +159,55 @@ module _ (may : May) (cs : List Component) where
     pub point-stands : (kind : Kind) (p : ℕ) → Suits kind may → FoldPointBy may g0 cs cap p → Stands kind (length cs) p
     point-stands kind p s f = record { some = f .some; within = f .within; folded = λ h. s cs p h (f .allowed) }
 
--- What the kinds allow; nothing else looks into `mayStand`. A fold: only to nested groups.
+-- What the kinds and the marks allow; nothing else looks into `mayStand`. Neither fold nor end behind a barred component.
+module _ (kind : Kind) (cs : List Component) (p : ℕ) where
+  may-parts : mayStand kind cs p ≡ true → (onSides kind cs p ≡ true) × (unbarred (take p cs) ≡ true) × (unbarred cs ≡ true)
+  unfolding mayStand
+  may-parts a =
+      let b = both (onSides kind cs p && unbarred (take p cs)) (unbarred cs) a in
+      let d = both (onSides kind cs p) (unbarred (take p cs)) (b .0) in
+      (d .0, d .1, b .1)
+
+  pub may-fold : mayStand kind cs p ≡ true → unbarred (take p cs) ≡ true
+  may-fold a = may-parts a .1
+
+  pub may-end : mayStand kind cs p ≡ true → unbarred cs ≡ true
+  may-end a = may-parts a .2
+
+-- A fold: only to nested groups.
 pub suits : (kind : Kind) → Suits kind (mayStand kind)
+suits kind cs p h a = go kind (may-parts kind cs p a .0)
+  where
+    go : (k : Kind) → onSides k cs p ≡ true → k ≡ Nested
+    go Apart e = absurd (let z = eqb-true p (length cs) e in omega arith)
+    go Nested e = refl
+
+-- Every way in which a legal group stands, with neither behind a barred component.
+pub stands-allowed : (kind : Kind) (cs : List Component) (p : ℕ) → Stands kind (length cs) p → unbarred (take p cs) ≡ true → unbarred cs ≡ true → mayStand kind cs p ≡ true
 unfolding mayStand
-suits Apart cs p h a = absurd (let e = eqb-true p (length cs) a in omega arith)
-suits Nested cs p h a = refl
+stands-allowed Apart cs p s f e = and-is (and-is (eq-eqb p (length cs) (apart-whole (length cs) p s)) f) e
+stands-allowed Nested cs p s f e = and-is {a = unbarred (take p cs)} f e
 
--- Every way in which a legal group stands.
-pub stands-allowed : (kind : Kind) (cs : List Component) (p : ℕ) → Stands kind (length cs) p → mayStand kind cs p ≡ true
-unfolding mayStand
-stands-allowed Apart cs p s = eq-eqb p (length cs) (apart-whole (length cs) p s)
-stands-allowed Nested cs p s = refl
+-- So every group that may end there may stand without a fold, and some way is allowed to it.
+pub flat-allowed : (kind : Kind) (cs : List Component) → 0 < length cs → unbarred cs ≡ true → mayStand kind cs (length cs) ≡ true
+flat-allowed kind cs s e =
+    stands-allowed kind cs (length cs) (record { some = s; within = omega arith; folded = λ h. absurd (omega arith) }) (rw (take-all (length cs) cs (omega arith)) e) e
 
--- So every group may stand without a fold, and some way is allowed to it.
-pub flat-allowed : (kind : Kind) (cs : List Component) → 0 < length cs → mayStand kind cs (length cs) ≡ true
-flat-allowed kind cs s = stands-allowed kind cs (length cs) (record { some = s; within = omega arith; folded = λ h. absurd (omega arith) })
+pub some-way : (kind : Kind) (cs : List Component) → 0 < length cs → unbarred cs ≡ true → SomeWay (mayStand kind) cs
+some-way kind cs s e = allowed-some (mayStand kind) cs (length cs) (s, omega arith, flat-allowed kind cs s e)
 
-pub some-way : (kind : Kind) (cs : List Component) → 0 < length cs → SomeWay (mayStand kind) cs
-some-way kind cs s = allowed-some (mayStand kind) cs (length cs) (s, omega arith, flat-allowed kind cs s)
+-- To one that may not end there none is: it has no width. So one that has a width may end there.
+pub barred-end : (kind : Kind) (cs : List Component) (g0 limit : ℕ) → unbarred cs ≡ false → leastWidthBy (mayStand kind) g0 cs limit ≡ none
+unfolding leastWidthBy
+barred-end kind cs g0 limit e = go (waysOf (mayStand kind) cs) (λ p i. in-ways (mayStand kind cs) (length cs) p i .2)
+  where
+    go : (l : List ℕ) → ((p : ℕ) → In p l → mayStand kind cs p ≡ true) → cond (isEnd l) none (leastCap (mayStand kind) g0 cs limit) ≡ none
+    go [] f = refl
+    go (p ∷ l) f = absurd (true≢false (sym (may-end kind cs p (f p (inl refl))) ∙ e))
+
+pub met-end : (kind : Kind) (cs : List Component) (g0 limit : ℕ) → leastWidthBy (mayStand kind) g0 cs limit < none → unbarred cs ≡ true
+met-end kind cs g0 limit h = go (either (unbarred cs))
+  where
+    go : (unbarred cs ≡ true) ⊎ (unbarred cs ≡ false) → unbarred cs ≡ true
+    go (inl e) = e
+    go (inr e) = absurd (omega (arith, barred-end kind cs g0 limit e))

@@ -4,7 +4,7 @@
 use Prim.Native.Nat.{ℕ, zero, suc, _+_, _≤_, _<_, min, max}
 use mathlib.Core.Path.{_≡_}
 use mathlib.Core.List.{List, [], _∷_, reverseAux, map}
-use mathlib.Core.Bool.{Bool, true, cond}
+use mathlib.Core.Bool.{Bool, true, not, cond, _&&_}
 use lib.ListN.{length, take, drop}
 use lib.Dec.{leb, eqb}
 use Rattle.terms.specs.declared.Component.{Component}
@@ -43,9 +43,17 @@ abbrev pub May : Type 0
 May = List Component → ℕ → Bool
 
 -- The rule of document 01: apart all of them, nested any.
+abbrev pub onSides : Kind → May
+onSides Apart cs p = eqb p (length cs)
+onSides Nested cs p = true
+
+-- The last of them is not barred.
+abbrev pub unbarred : List Component → Bool
+unbarred cs = not (eqb (gapBehind (λ x. x .mark) cs) 1)
+
+-- With the rule of ticket 3: a group has neither its fold nor its end behind a barred component.
 unfoldable pub mayStand : Kind → May
-mayStand Apart cs p = eqb p (length cs)
-mayStand Nested cs p = true
+mayStand kind cs p = onSides kind cs p && unbarred (take p cs) && unbarred cs
 
 -- The height of the group that stands so.
 abbrev pub wayHeight : ℕ → List Component → ℕ → ℕ → ℕ

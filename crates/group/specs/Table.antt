@@ -6,11 +6,11 @@ use lib.ListN.{length, getD}
 use Rattle.numbers.specs.Table.{stride, cells}
 use Rattle.terms.specs.Numbers.{mostSize, mostNested}
 use Rattle.terms.specs.declared.Component.{Component}
-use Rattle.terms.specs.Component.{componentsIn}
+use Rattle.terms.specs.Seams.{componentsIn}
 use Rattle.group.specs.Rows.{rows}
 use Rattle.group.specs.Group.{leftSide, rightSide}
 
--- The components of two lists. Their gaps do not matter to rows and starts.
+-- The components of two lists. Their seams do not matter to rows and starts.
 abbrev pub bare : List ℕ → List ℕ → List Component
 bare hs ws = componentsIn hs ws []
 

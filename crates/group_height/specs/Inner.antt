@@ -5,21 +5,23 @@ use mathlib.Core.List.{List}
 use lib.ListN.{length, getD}
 use Rattle.numbers.specs.Table.{stride, cells}
 use Rattle.terms.specs.Numbers.{mostSize, mostNested}
+use Rattle.terms.specs.Seams.{gapAt}
 use Rattle.group.specs.Table.{mostEntry}
+use Rattle.group_height.specs.Heights.{foldRows}
 
 -- The heights of a group by its table: without a fold, and with a fold behind the first p components.
 abbrev pub flatBy : ℕ → List ℕ → List ℕ → ℕ
-flatBy g0 gs es = getD es 0 0 + g0 + getD gs (length gs - 1) 0
+flatBy g0 gs es = getD es 0 0 + g0 + gapAt gs (length gs - 1)
 
 abbrev pub foldBy : ℕ → List ℕ → List ℕ → ℕ → ℕ
-foldBy g0 gs es p = getD es (p * stride + p) 0 + max g0 (getD gs (length gs - 1) 0) + getD gs (p - 1) 0
+foldBy g0 gs es p = getD es (p * stride + p) 0 + foldRows (max g0 (gapAt gs (length gs - 1))) gs p
 
 -- What a pass over all fold points asks.
 pub record PassAsks (g0 : ℕ) (gs es : List ℕ) : Type 0 where
   pub some : 1 ≤ length gs
   pub few : length gs ≤ mostNested
   pub room : cells ≤ length es
-  pub gaps-low : (i : ℕ) → getD gs i 0 ≤ mostSize
+  pub gaps-low : (i : ℕ) → gapAt gs i ≤ mostSize
   pub first-low : g0 ≤ mostSize
   pub small : (p : ℕ) → p < length gs → getD es (p * stride + p) 0 ≤ mostEntry
 

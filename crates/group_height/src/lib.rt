@@ -1,17 +1,19 @@
 // Where the fold of one group is that is as low as it can be under a cap.
 ghost use mathlib.Core.Path.{_≡_};
-ghost use Prim.Native.Nat.{_+_, _*_, _≤_};
+ghost use Prim.Native.Nat.{_+_, _*_, _≤_, _<_};
 ghost use lib.ListN.{length, getD};
-ghost use Rattle.terms.specs.Numbers.{mostNested};
+ghost use Rattle.terms.specs.Numbers.{mostSize, mostNested};
 ghost use Rattle.numbers.specs.Table.{stride, cells};
 ghost use Rattle.terms.specs.declared.Kind.the-variants.{Nested};
-ghost use Rattle.terms.specs.Component.{componentsIn};
-ghost use Rattle.group.specs.Group.{FoldPoint};
+ghost use Rattle.terms.specs.Seams.{componentsIn};
+ghost use Rattle.group.specs.Group.{none, FoldPoint};
 ghost use Rattle.group.specs.Table.{Filled};
-ghost use Rattle.group_height.specs.Heights.{HeightAsks};
+ghost use Rattle.group_height.specs.Heights.{foldRows, HeightAsks};
 ghost use Rattle.group_height.specs.Inner.{PassAsks, Lowest};
+use group::NONE;
 use numbers::STRIDE;
-use numbers::get;
+use numbers::barred;
+use numbers::gap;
 use numbers::larger;
 use terms::Rows;
 use terms::Slices;
@@ -23,6 +25,17 @@ fn fold_cell(e: &[u32], p: usize) -> u32
     e[p * STRIDE + p]
 }
 
+// What a fold behind the first p components adds to the rows of its sides: NONE where it is barred, which is over every limit.
+pub fn fold_rows(g: &[u16], p: usize, both: u32) -> u32
+    requires { ⌜ (0 < p) × (p ≤ length (now g)) × (both ≤ mostSize) ⌝ }
+    ensures { λ r. ⌜ (r ≡ foldRows both (now (g .entry)) p) × (r ≤ none) ⌝ }
+{
+    if barred(g, p - 1) {
+        return NONE;
+    }
+    both + gap(g, p - 1)
+}
+
 // The fold point of the least height in a filled table.
 fn over_folds(g0: Rows, g: &[u16], e: &[u32]) -> usize
     requires { ⌜ PassAsks (g0 .0) (now g) (now e) ⌝ }
@@ -30,13 +43,13 @@ fn over_folds(g0: Rows, g: &[u16], e: &[u32]) -> usize
 {
     let before = g0.0;
     let m = g.len();
-    let last = get(g, m - 1);
+    let last = gap(g, m - 1);
     let most = larger(before, last);
     let mut v = e[0] + before + last;
     let mut at = m;
     let mut p = 1;
     while p < m {
-        let t = fold_cell(e, p) + most + get(g, p - 1);
+        let t = fold_cell(e, p) + fold_rows(g, p, most);
         if t < v {
             v = t;
             at = p;

@@ -8,7 +8,7 @@ use lib.ListN.{length, getD, take, drop, set, length-drop, length-append}
 use lib.Seq.{getD-append-add, getD-set-same, getD-set-other, getD-drop, length-take-le}
 use Rattle.terms.specs.declared.Component.{Component}
 use Rattle.terms.specs.declared.Kind.the-variants.{Nested}
-use Rattle.terms.specs.Component.{componentIn, componentsIn}
+use Rattle.terms.specs.Seams.{componentIn, componentsIn}
 use Rattle.terms.proofs.Order.{order}
 use Rattle.terms.proofs.Tabulate.{tabulate-length}
 use Rattle.numbers.specs.Table.{cells}
@@ -41,13 +41,13 @@ module _ {g0 flat : ℕ} {hs ws gs es : List ℕ} {limit wide low cap : ℕ} (r 
   some = omega (arith, tabulate-length (componentIn hs ws gs) (length hs), r .asks .asks .some)
 
   is-first : leastWidth Nested g0 cs limit ≡ leastCap (mayStand Nested) g0 cs limit
-  is-first = width-is (mayStand Nested) cs g0 limit (some-way Nested cs some)
+  is-first = width-is (mayStand Nested) cs g0 limit (some-way Nested cs some (r .asks .asks .free))
 
   -- Heights are at most those of 64 components of 4,000 rows on top of each other, and two gaps.
   height-low : (c : ℕ) → leastHeight Nested g0 cs c ≤ 264000
   height-low c = omega (
     arith,
-    least-flat g0 cs some c,
+    least-flat g0 cs some (r .asks .asks .free) c,
     tall-entry hs ws gs 0,
     at-le (componentIn hs ws []) (length hs) (r .asks .asks .table .columns .low) 0 0 0 (omega arith) (omega arith),
     r .asks .asks .table .few,
@@ -139,9 +139,10 @@ module _ {g0 flat : ℕ} {hs ws gs work : List ℕ} {at limit wide low cap : ℕ
           asks = record {
             table = record { columns = a .table .columns; few = a .table .few; room = omega (arith, part-long) };
             some = a .some;
-            gaps-long = a .gaps-long;
+            seams-long = a .seams-long;
             gaps-low = a .gaps-low;
             first-low = a .first-low;
+            free = a .free;
           };
           is-widest = q .is-widest;
           from = q .from;

@@ -5,7 +5,7 @@ use mathlib.Core.Logic.{_≢_}
 use mathlib.Core.List.{List}
 use lib.ListN.{length, getD}
 use Rattle.terms.specs.declared.Kind.the-variants.{Nested}
-use Rattle.terms.specs.Component.{componentsIn}
+use Rattle.terms.specs.Seams.{componentsIn}
 use Rattle.numbers.specs.Table.{cells}
 use Rattle.group.specs.Group.{flatHeight, leastHeight}
 use Rattle.group_search.specs.Widths.{WidthAsks, Over}

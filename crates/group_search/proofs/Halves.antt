@@ -8,7 +8,8 @@ use native.Mathlib.Omega.{arith}
 use lib.ListN.{length}
 use Rattle.terms.specs.declared.Component.{Component}
 use Rattle.terms.specs.declared.Kind.the-variants.{Nested}
-use Rattle.terms.specs.Component.{tabulate, componentIn, componentsIn}
+use Rattle.terms.specs.Component.{tabulate}
+use Rattle.terms.specs.Seams.{componentIn, componentsIn}
 use Rattle.terms.proofs.Order.{order}
 use Rattle.terms.proofs.Tabulate.{tabulate-length}
 use Rattle.group.specs.Rows.{wd}
@@ -65,7 +66,7 @@ module _ {g0 flat : ℕ} {hs ws gs es : List ℕ} {limit wide low cap : ℕ} (r 
   asks-at fs c b l =
       let a = r .asks .asks in
       record {
-        asks = record { table = record { columns = a .table .columns; few = a .table .few; room = b .room }; some = a .some; gaps-long = a .gaps-long; gaps-low = a .gaps-low; first-low = a .first-low };
+        asks = record { table = record { columns = a .table .columns; few = a .table .few; room = b .room }; some = a .some; seams-long = a .seams-long; gaps-low = a .gaps-low; first-low = a .first-low; free = a .free };
         is-flat = r .is-flat;
         borders = b;
         limit-low = r .asks .limit-low;
@@ -87,7 +88,7 @@ module _ {g0 flat : ℕ} {hs ws gs es : List ℕ} {limit wide low cap : ℕ} (r 
         go : (cap ≤ top) ⊎ (top < cap) → Narrow g0 hs ws gs limit cap none h
         go (inl k) = let z : cap ≡ top = omega (arith, f .to) in too-high h (rw z (omega (arith, s .least top (s .fits) (s .clashes))))
         go (inr k) =
-            absurd (omega (arith, f .keeps k, r .is-flat, least-flat g0 cs (let n : 0 < length cs = omega (arith, tabulate-length (componentIn hs ws gs) (length hs), r .asks .asks .some) in n) top, s .least top (s .fits) (s .clashes)))
+            absurd (omega (arith, f .keeps k, r .is-flat, least-flat g0 cs (let n : 0 < length cs = omega (arith, tabulate-length (componentIn hs ws gs) (length hs), r .asks .asks .some) in n) (r .asks .asks .free) top, s .least top (s .fits) (s .clashes)))
 
     module _ {hi : ℕ} (e : hi ≡ max fit low) where
       pub high-low : hi ≤ cap

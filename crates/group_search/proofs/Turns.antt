@@ -8,6 +8,7 @@ use native.Mathlib.Omega.{arith}
 use lib.ListN.{length, getD, set, length-set}
 use lib.Seq.{getD-set-same, getD-set-other}
 use Rattle.terms.proofs.Order.{order}
+use Rattle.group_height.specs.Heights.{foldRows}
 use Rattle.group_search.specs.Inner.{MoveAsks, Moved, TurnAsks, RowAsks, ClearRowAsks, RowCleared, ClearAsks, Cleared}
 use Rattle.group_search.proofs.Walks.{move-none, moved-asks, move-on, move-row}
 
@@ -113,7 +114,7 @@ module _ {gs old : List ℕ} {both : ℕ} (r : ClearAsks gs old both) where
     pub clear-row-asks : p < length gs → ClearRowAsks (length gs) es p
     clear-row-asks more = record { few = r .few; room = i .room; more = more }
 
-    pub clear-next : {new : List ℕ} (v : ℕ) → length new ≡ length es → p < length gs → v ≡ both + getD gs (p - 1) 0 → RowCleared (length gs) es new p v → Clearing gs old new both (p + 1)
+    pub clear-next : {new : List ℕ} (v : ℕ) → length new ≡ length es → p < length gs → v ≡ foldRows both gs p → RowCleared (length gs) es new p v → Clearing gs old new both (p + 1)
     clear-next {new} v len more e d = record {
       long = len ∙ i .long;
       room = omega (arith, i .room);

@@ -8,7 +8,7 @@ use native.Mathlib.Omega.{arith}
 use lib.ListN.{length, getD, set, length-set}
 use lib.Seq.{getD-set-other}
 use Rattle.terms.specs.declared.Component.{Component}
-use Rattle.terms.specs.Component.{componentIn}
+use Rattle.terms.specs.Seams.{componentIn}
 use Rattle.group.specs.Rows.{ht, wd, tall, rows}
 use Rattle.group.specs.Group.{leftSide, rightSide}
 use Rattle.group.specs.Table.{bare, entry, Columns}

@@ -5,12 +5,12 @@ use mathlib.Core.List.{List}
 use lib.ListN.{length, getD}
 use Rattle.terms.specs.Numbers.{mostSize, mostNested, mostLimit}
 use Rattle.terms.specs.declared.Kind.the-variants.{Nested}
-use Rattle.terms.specs.Component.{componentsIn}
+use Rattle.terms.specs.Seams.{componentsIn}
 use Rattle.numbers.specs.Table.{stride, cells}
 use Rattle.group.specs.Rows.{rows}
 use Rattle.group.specs.Group.{none, leftSide, rightSide, flatHeight, leastHeight}
 use Rattle.group.specs.Table.{bare, entry, mostEntry, Columns}
-use Rattle.group_height.specs.Heights.{HeightAsks}
+use Rattle.group_height.specs.Heights.{foldRows, HeightAsks}
 use Rattle.group_search.specs.Outward.{Same, Adds}
 
 -- The borders of a table hold what is left where one side is used up, for all widths and every cap.
@@ -124,7 +124,7 @@ pub record ClearAsks (gs es : List ℕ) (both : ℕ) : Type 0 where
 
 -- The rows below p are fresh, and the borders have not changed.
 pub record Cleared (gs old new : List ℕ) (both p : ℕ) : Type 0 where
-  pub fold : (x : ℕ) → 0 < x → x < p → getD new (x * stride + x) 0 ≡ both + getD gs (x - 1) 0
+  pub fold : (x : ℕ) → 0 < x → x < p → getD new (x * stride + x) 0 ≡ foldRows both gs x
   pub far : (x y : ℕ) → 0 < x → x < p → x < y → y < length gs → getD new (x * stride + y) 0 ≡ none
   pub top : (i : ℕ) → i ≤ length gs → getD new i 0 ≡ getD old i 0
   pub side : (x : ℕ) → getD new (x * stride + length gs) 0 ≡ getD old (x * stride + length gs) 0

@@ -4,7 +4,7 @@ use mathlib.Core.Path.{_≡_}
 use mathlib.Core.List.{List}
 use Rattle.terms.specs.Numbers.{mostLimit}
 use Rattle.terms.specs.declared.Kind.the-variants.{Nested}
-use Rattle.terms.specs.Component.{componentsIn}
+use Rattle.terms.specs.Seams.{componentsIn}
 use Rattle.group.specs.Group.{none, widest, flatHeight, leastHeight, leastWidth}
 use Rattle.group_height.specs.Heights.{HeightAsks}
 

@@ -10,9 +10,11 @@ ghost use Rattle.group_search.specs.Inner.{ClearRowAsks, RowCleared, Cle
 ghost use Rattle.group_search.specs.Inner.{SearchAsks, Searched, FirstCap};
 ghost use Rattle.group_search.specs.Widths.{Narrow, Over, LowAsks};
 use group::NONE;
+use group_height::fold_rows;
 use group_table::beside;
 use numbers::STRIDE;
 use numbers::cell;
+use numbers::gap;
 use numbers::get;
 use numbers::larger;
 use numbers::lesser;
@@ -185,7 +187,7 @@ fn clear_row(e: &mut [u32], p: usize, m: usize, v: u32)
     e[p * STRIDE + p] = v;
 }
 
-// The table at the start; `both` is the larger of the gaps before and behind the group.
+// The table at the start; `both` is the larger of the gaps before and behind the group. A fold that is barred starts far.
 fn clear(g: &[u16], e: &mut [u32], both: u32)
     requires { ⌜ ClearAsks (now g) (now e) both ⌝ }
     ensures { λ _. ⌜ Cleared (now (g .entry)) (now (e .entry)) (now (e .exit)) both (length (now (g .entry))) ⌝ }
@@ -193,7 +195,7 @@ fn clear(g: &[u16], e: &mut [u32], both: u32)
     let m = g.len();
     let mut p = 1;
     while p < m {
-        let v = both + get(g, p - 1);
+        let v = fold_rows(g, p, both);
         clear_row(e, p, m, v);
         p += 1;
     }
@@ -224,7 +226,7 @@ fn search(
         (r .height .0) (r .fit .0) (r .clash .0) ⌝ }
     ensures { λ r. ⌜ Bordered (now (h .entry)) (now (e .exit)) ⌝ }
 {
-    let both = larger(g0.0, get(g, g.len() - 1));
+    let both = larger(g0.0, gap(g, g.len() - 1));
     clear(g, e, both);
     let start = Run {
         height: Rows(lesser(limit.0 + 1, flat.0)),

@@ -7,7 +7,7 @@ use native.Mathlib.Nat.{eq-or-lt-of-le, zero-add}
 use native.Mathlib.Omega.{arith}
 use lib.ListN.{length, getD, set, length-set}
 use lib.Seq.{getD-set-same, getD-set-other}
-use Rattle.terms.specs.Component.{componentIn}
+use Rattle.terms.specs.Seams.{componentIn}
 use Rattle.group.specs.Table.{entry, Columns, Filled}
 use Rattle.terms.proofs.Order.{order}
 use Rattle.group_table.specs.Inner.{Right, Ready, RowAsks, RowDone, Low, TopDone, SideDone}

@@ -9,7 +9,7 @@ use native.Mathlib.Omega.{arith}
 use lib.ListN.{length, getD}
 use lib.Dec.{leb}
 use borrow.Author.Tests.{leb-true, leb-false}
-use Rattle.terms.specs.Component.{componentIn}
+use Rattle.terms.specs.Seams.{componentIn}
 use Rattle.group.specs.Rows.{rows}
 use Rattle.group.specs.Group.{leftSide, rightSide}
 use Rattle.group.specs.Table.{bare, entry, mostEntry}

@@ -5,7 +5,7 @@ use mathlib.Core.List.{List, [], _∷_}
 use native.Mathlib.Omega.{arith}
 use lib.ListN.{length}
 use Rattle.terms.specs.declared.Component.{Component}
-use Rattle.terms.specs.Component.{componentIn}
+use Rattle.terms.specs.Seams.{componentIn}
 use Rattle.terms.proofs.Tabulate.{tabulate-length, tabulate-drop, tabulate-end}
 use Rattle.group.specs.Rows.{ht, packed, putLeft, putRight, place}
 use Rattle.group.specs.Group.{leftSide, rightSide}

@@ -6,7 +6,7 @@ use mathlib.Core.List.{List, [], _∷_}
 use native.Mathlib.Omega.{arith}
 use lib.ListN.{length, getD}
 use Rattle.terms.specs.declared.Component.{Component}
-use Rattle.terms.specs.Component.{componentIn}
+use Rattle.terms.specs.Seams.{componentIn}
 use Rattle.group.specs.Rows.{rows, putLeft, putRight}
 use Rattle.group.specs.Group.{leftSide, rightSide}
 use Rattle.group.specs.Table.{bare}

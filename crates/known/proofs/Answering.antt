@@ -36,7 +36,7 @@ table-refuses kind file out work k e = λ out′ work′ answer t. tables.refuse
 refuses : (kind : Kind) (file : List ℕ) (k : ℕ) → checkOf kind file ≡ refusal k → Refuses kind file k
 refuses kind file k e = record {
   checking = e;
-  reading = λ heights widths gaps. rw e;
+  reading = λ shortest. rw e;
   measuring = λ flat. rw e;
   choosing = λ first second. rw e;
   folding = λ limit out work. folds-refuse kind file limit out work k (rw e);

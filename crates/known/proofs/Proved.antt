@@ -32,6 +32,7 @@ use Rattle.layout.specs.Layout.{Layout, layoutOf}
 use Rattle.layout.specs.Table.{outline, outlines}
 use Rattle.layout.proofs.Bounds.{all-gaps}
 use Rattle.layout.proofs.Groups.{Stacked}
+use Rattle.layout.proofs.Marks.{stack-free}
 use Rattle.layout.proofs.Foldings.{search}
 use Rattle.layout.proofs.Best.{reach, best-height, best-width}
 use Rattle.layout.proofs.Table as tables
@@ -76,13 +77,13 @@ AllComputed (l ∷ ls) = Computed l × AllComputed ls
 computed : AllComputed lines
 unfolding lines headerOf tall rows gapBehind widest mayStand ways lowest leastHeightBy firstFrom leastWidthBy scanBy layoutsBy outlinesBy stackOf every units
 computed =
-    ((refl, refl), ((refl, refl), ((refl, refl), ((refl, refl), ((refl, refl, refl), ((refl, refl, refl), ((refl, refl), ((refl, refl, refl, refl), ((refl, refl), ((refl, refl), ((refl, refl), ((refl, refl), ((refl, refl), ((refl, refl, refl, refl), ((refl, refl), ((refl, refl), ((refl, refl), ((refl, refl, refl), ((refl, refl, refl), ((refl, refl, refl), ((refl, refl, refl), ((refl, refl, refl), ((refl, refl, refl), ((refl, refl, refl), ((refl, refl, refl), ((refl, refl, refl), ((refl, refl, refl), ((refl, refl, refl), ((refl, refl, refl), (refl, (refl, (refl, (refl, (refl, (refl, (refl, (refl, (refl, (refl, (refl, (refl, (refl, (refl, (refl, (refl, (refl, (refl, (refl, (refl, (refl, (refl, (refl, (refl, (refl, (refl, (refl, (refl, (refl, (refl, (refl, (refl, (refl, tt))))))))))))))))))))))))))))))))))))))))))))))))))))))))))))))
+    ((refl, refl), ((refl, refl), ((refl, refl), ((refl, refl), ((refl, refl, refl), ((refl, refl, refl), ((refl, refl), ((refl, refl, refl, refl), ((refl, refl), ((refl, refl), ((refl, refl), ((refl, refl), ((refl, refl), ((refl, refl, refl, refl), ((refl, refl), ((refl, refl), ((refl, refl), ((refl, refl), ((refl, refl), ((refl, refl), ((refl, refl), ((refl, refl), ((refl, refl, refl, refl), ((refl, refl), ((refl, refl), ((refl, refl), ((refl, refl), ((refl, refl), ((refl, refl), ((refl, refl, refl), ((refl, refl, refl), ((refl, refl, refl), ((refl, refl, refl), ((refl, refl, refl), ((refl, refl, refl), ((refl, refl, refl), ((refl, refl, refl), ((refl, refl, refl), ((refl, refl, refl), ((refl, refl, refl), ((refl, refl, refl), ((refl, refl, refl), ((refl, refl, refl), (refl, (refl, (refl, (refl, (refl, (refl, (refl, (refl, (refl, (refl, (refl, (refl, (refl, (refl, (refl, (refl, (refl, (refl, (refl, (refl, (refl, (refl, (refl, (refl, (refl, (refl, (refl, (refl, (refl, (refl, (refl, (refl, (refl, (refl, (refl, (refl, (refl, (refl, (refl, (refl, (refl, (refl, (refl, (refl, (refl, (refl, tt)))))))))))))))))))))))))))))))))))))))))))))))))))))))))))))))))))))))))))))))))))))))))
 
 -- What a stack's check says.
 stacked : (kind : Kind) (cs : List Component) → IsStack kind cs → Stacked cs
 stacked kind cs e =
     let s = stack-is (mostOf kind) cs cs e .1 in
-    record { some = s .some; good = record { few = omega (arith, s .few, most-256 kind); sized = all-sized cs (s .sizes); gapped = all-gaps cs (s .gaps) } }
+    record { some = s .some; good = record { few = omega (arith, s .few, most-256 kind); sized = all-sized cs (s .sizes); gapped = all-gaps cs (s .gaps) }; free = stack-free cs (s .marks) }
 
 met-is : (t : Bool) (b : Layout) (o : Outline) → ltb (b .width) none ≡ t → answerOf t b ≡ result o → (b .width < none) × (outline (b .width) (b .height) ≡ o)
 met-is true b o t q = (ltb-true _ _ t, result-same q)

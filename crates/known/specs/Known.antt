@@ -1,5 +1,5 @@
--- The known stacks (document 01, "Known stacks"; ticket 1): one list of lines, each a claim about all legal foldings of its
--- stack and kind or about a refusal, and about what the calls answer.
+-- The known stacks (document 01, "Known stacks"; tickets 1 and 3): one list of lines, each a claim about all legal foldings of
+-- its stack and kind or about a refusal, and about what the calls answer.
 use Prim.Native.Nat.{ℕ, zero, suc, _*_, _≤_}
 use mathlib.Core.Path.{_≡_}
 use mathlib.Core.List.{List, [], _∷_}
@@ -77,7 +77,7 @@ TableRefuses kind file out work k = (out′ work′ : List ℕ) (answer : Answer
 -- refusals of a file come first.
 pub record Refuses (kind : Kind) (file : List ℕ) (k : ℕ) : Type 0 where
   pub checking : checkOf kind file ≡ refusal k
-  pub reading : (heights widths gaps : ℕ) → readOf kind file heights widths gaps ≡ refusal k
+  pub reading : (shortest : ℕ) → readOf kind file shortest ≡ refusal k
   pub measuring : (flat : List ℕ) → measureOf kind file flat ≡ refusal k
   pub choosing : (first second : List ℕ) → chooseOf kind file first second ≡ []
   pub folding : (limit : ℕ) (out work : List ℕ) → FoldsRefuse kind file limit out work k
@@ -127,9 +127,15 @@ abbrev pub AllHold : List Line → Type 0
 AllHold [] = Unit {0}
 AllHold (l ∷ ls) = Holds l × Answers l × AllHold ls
 
--- Components are height/width, with a gap.
+-- Components are height/width, with a gap and a mark: 0, and 1 where a fold behind it is barred.
+abbrev pub marked : ℕ → ℕ → ℕ → ℕ → Component
+marked h w g m = record { height = record { 0 = h }; width = record { 0 = w }; gap = record { 0 = g }; mark = m }
+
 abbrev pub c : ℕ → ℕ → ℕ → Component
-c h w g = record { height = record { 0 = h }; width = record { 0 = w }; gap = record { 0 = g } }
+c h w g = marked h w g 0
+
+abbrev pub b : ℕ → ℕ → ℕ → Component
+b h w g = marked h w g 1
 
 abbrev pub o : ℕ → ℕ → Outline
 o w h = record { width = record { 0 = w }; height = record { 0 = h } }
@@ -151,6 +157,20 @@ E = c 1 3 0 ∷ c 1 1 0 ∷ c 1 1 0 ∷ c 1 3 0 ∷ []
 
 abbrev pub F : List Component
 F = c 2 5 0 ∷ c 1 4 0 ∷ c 1 1 0 ∷ c 1 4 0 ∷ c 1 1 0 ∷ []
+
+-- B and E with their second component barred, E with all but the last, and F with its third, behind which its folding of 10
+-- slices in 2 rows has its fold.
+abbrev pub B2 : List Component
+B2 = c 3 1 0 ∷ b 1 1 0 ∷ c 2 1 0 ∷ c 4 1 0 ∷ []
+
+abbrev pub E2 : List Component
+E2 = c 1 3 0 ∷ b 1 1 0 ∷ c 1 1 0 ∷ c 1 3 0 ∷ []
+
+abbrev pub E123 : List Component
+E123 = b 1 3 0 ∷ b 1 1 0 ∷ b 1 1 0 ∷ c 1 3 0 ∷ []
+
+abbrev pub F3 : List Component
+F3 = c 2 5 0 ∷ c 1 4 0 ∷ b 1 1 0 ∷ c 1 4 0 ∷ c 1 1 0 ∷ []
 
 -- n components 1/1 without gaps.
 unfoldable pub units : ℕ → List Component
@@ -176,6 +196,18 @@ lines =
     ∷ table Apart E (o 3 4 ∷ o 6 2 ∷ o 8 1 ∷ [])
     ∷ table Nested E (o 3 3 ∷ o 6 2 ∷ o 8 1 ∷ [])
     ∷ to-height Nested F 2 (result (o 10 2))
+    ∷ table Apart B2 (o 1 10 ∷ o 2 6 ∷ o 3 4 ∷ [])
+    ∷ table Nested B2 (o 1 10 ∷ o 2 6 ∷ o 3 4 ∷ [])
+    ∷ table Apart E2 (o 3 4 ∷ o 6 3 ∷ o 7 2 ∷ [])
+    ∷ table Nested E2 (o 3 4 ∷ o 4 3 ∷ o 7 2 ∷ [])
+    ∷ to-height Nested E2 1 (refusal 9)
+    ∷ to-width Nested E2 6 (result (o 4 3))
+    ∷ table Apart E123 (o 3 4 ∷ [])
+    ∷ table Nested E123 (o 3 4 ∷ [])
+    ∷ to-height Nested E123 3 (refusal 9)
+    ∷ to-height Nested F3 2 (result (o 11 2))
+    ∷ table Apart (b 4 1 1 ∷ c 4 1 0 ∷ []) (o 1 8 ∷ [])
+    ∷ table Nested (b 4 1 1 ∷ c 4 1 0 ∷ []) (o 1 8 ∷ [])
     ∷ smallest-area Apart A (o 2 3)
     ∷ smallest-area Nested A (o 2 3)
     ∷ smallest-area Apart B (o 1 10)
@@ -188,10 +220,17 @@ lines =
     ∷ smallest-area Nested E (o 8 1)
     ∷ smallest-area Apart F (o 13 2)
     ∷ smallest-area Nested F (o 5 4)
+    ∷ smallest-area Nested E2 (o 3 4)
+    ∷ smallest-area Nested F3 (o 11 2)
     ∷ header [] 1
-    ∷ header (83 ∷ 84 ∷ 76 ∷ 2 ∷ 0 ∷ 1 ∷ 0 ∷ []) 1
-    ∷ header (83 ∷ 84 ∷ 75 ∷ 2 ∷ 0 ∷ 1 ∷ 0 ∷ []) 2
+    ∷ header (83 ∷ 84 ∷ 76 ∷ 3 ∷ 0 ∷ 1 ∷ 0 ∷ []) 1
+    ∷ header (83 ∷ 84 ∷ 75 ∷ 0 ∷ 0 ∷ 1 ∷ 0 ∷ []) 2
+    ∷ header (83 ∷ 84 ∷ 75 ∷ 3 ∷ 0 ∷ 1 ∷ 0 ∷ []) 2
+    ∷ header (83 ∷ 84 ∷ 75 ∷ 2 ∷ 1 ∷ 1 ∷ 0 ∷ []) 2
     ∷ header (83 ∷ 84 ∷ 75 ∷ 1 ∷ 0 ∷ 1 ∷ 0 ∷ []) 3
+    ∷ header (83 ∷ 84 ∷ 75 ∷ 1 ∷ 0 ∷ 1 ∷ 0 ∷ 1 ∷ 0 ∷ 1 ∷ 0 ∷ 0 ∷ 0 ∷ 0 ∷ 0 ∷ []) 3
+    ∷ header (83 ∷ 84 ∷ 75 ∷ 2 ∷ 0 ∷ 1 ∷ 0 ∷ []) 3
+    ∷ header (83 ∷ 84 ∷ 75 ∷ 2 ∷ 0 ∷ 1 ∷ 0 ∷ 1 ∷ 0 ∷ 1 ∷ 0 ∷ 0 ∷ 0 ∷ []) 3
     ∷ size Nested [] (refusal 4)
     ∷ size Nested (units 64) (result 64)
     ∷ size Nested (units 65) (refusal 4)
@@ -207,6 +246,14 @@ lines =
     ∷ size Apart (c 1 1 4000 ∷ c 1 1 0 ∷ []) (result 2)
     ∷ size Apart (c 1 1 4001 ∷ c 1 1 0 ∷ []) (refusal 6)
     ∷ size Apart (c 1 1 0 ∷ c 1 1 1 ∷ []) (refusal 6)
+    ∷ size Apart (b 1 1 4000 ∷ c 1 1 0 ∷ []) (result 2)
+    ∷ size Apart (b 1 1 4001 ∷ c 1 1 0 ∷ []) (refusal 6)
+    ∷ size Apart (marked 1 1 0 2 ∷ c 1 1 0 ∷ []) (refusal 11)
+    ∷ size Apart (c 1 1 0 ∷ b 1 1 0 ∷ []) (refusal 11)
+    ∷ size Nested (b 1 1 0 ∷ []) (refusal 11)
+    ∷ size Apart (marked 1 1 0 2 ∷ c 1 1 1 ∷ []) (refusal 6)
+    ∷ size Apart (marked 1 1 0 2 ∷ c 0 1 0 ∷ []) (refusal 5)
+    ∷ size Nested (marked 1 1 0 2 ∷ units 64) (refusal 4)
     ∷ lent 2000000 3 8192 (result 1)
     ∷ lent 2000001 3 8192 (refusal 7)
     ∷ lent 1 3 8192 (result 1)

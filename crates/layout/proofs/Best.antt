@@ -10,13 +10,14 @@ use Rattle.folding.specs.Placement.{placedOf}
 use Rattle.folding.specs.Legal.{Legal}
 use Rattle.folding.specs.Outline.{outlineOf}
 use Rattle.folding.specs.Best.{BestForHeight, BestForWidth}
-use Rattle.folding.proofs.Rules.{legal-is, legal-of}
+use Rattle.folding.proofs.Rules.{legal-is}
 use Rattle.model.specs.Groups.{none}
 use Rattle.model.specs.Outlines.{outlineBy}
 use Rattle.model.proofs.Best.{Below, others-wider, others-higher}
 use Rattle.layout.specs.Layout.{Layout, layoutOf}
 use Rattle.layout.proofs.Groups.{Stacked}
 use Rattle.layout.proofs.Folds.{Folds}
+use Rattle.layout.proofs.Marks.{legal-obeys, obeys-legal}
 use Rattle.layout.proofs.Foldings.{search}
 
 module _ (kind : Kind) (cs : List Component) where
@@ -28,22 +29,23 @@ module _ (kind : Kind) (cs : List Component) where
   FoldsAs ps b = Folds kind 0 0 cs ps (b .width) (b .height)
 
   folds-legal : (ps : List Placement) (b : Layout) → FoldsAs ps b → Legal kind cs ps
-  folds-legal ps b f = record { whole = f .whole; rules = legal-of kind (placedOf cs ps) (f .legal) }
+  folds-legal ps b f = obeys-legal kind cs ps (f .whole) (f .legal) (f .unparted)
 
   folds-outline : (ps : List Placement) (b : Layout) → FoldsAs ps b → outlineOf cs ps ≡ outlineBy b
   folds-outline ps b f = rw (f .width, f .height)
 
-  legal-folds : (ps : List Placement) (b : Layout) → Legal kind cs ps → outlineOf cs ps ≡ outlineBy b → FoldsAs ps b
-  legal-folds ps b l e = record {
+  legal-folds : Stacked cs → (ps : List Placement) (b : Layout) → Legal kind cs ps → outlineOf cs ps ≡ outlineBy b → FoldsAs ps b
+  legal-folds s ps b l e = record {
     whole = l .whole;
     legal = legal-is kind (placedOf cs ps) (l .rules);
+    unparted = legal-obeys kind cs ps (s .free) l;
     width = ap (λ (o : Outline). o .width .0) e;
     height = ap (λ (o : Outline). o .height .0) e;
   }
 
   module _ (s : Stacked cs) where
     pub reach : (limit : ℕ) → bestFor limit .width < none → (ps : List Placement) × FoldsAs ps (bestFor limit)
-    reach limit m = let r = search kind cs s .some limit m in (r .0, legal-folds (r .0) (bestFor limit) (r .1) (r .2))
+    reach limit m = let r = search kind cs s .some limit m in (r .0, legal-folds s (r .0) (bestFor limit) (r .1) (r .2))
 
     module _ (limit : ℕ) (ps : List Placement) (m : bestFor limit .width < none) (f : FoldsAs ps (bestFor limit)) where
       pub best-height : BestForHeight kind cs limit ps (outlineBy (bestFor limit))

@@ -7,7 +7,8 @@ use lib.ListN.{length, getD, take, drop, length-drop}
 use lib.Seq.{length-take-le, getD-take, getD-drop, ext-getD}
 use Rattle.terms.specs.declared.Component.{Component}
 use Rattle.terms.specs.declared.Kind.{Kind}
-use Rattle.terms.specs.Component.{tabulate, componentIn, componentsIn}
+use Rattle.terms.specs.Component.{tabulate}
+use Rattle.terms.specs.Seams.{componentIn, componentsIn}
 use Rattle.terms.proofs.Tabulate.{tabulate-length, tabulate-at, tabulate-same}
 use Rattle.terms.proofs.Answers.{most-256}
 use Rattle.terms.proofs.Lists.{Sized, AllSized}
@@ -24,27 +25,30 @@ pub components-length : (hs ws gs : List ℕ) → length (componentsIn hs ws gs)
 components-length hs ws gs = tabulate-length (componentIn hs ws gs) (length hs)
 
 -- An entry of a part is one of the list, or there is none.
+take-below : (k : ℕ) (l : List ℕ) (i : ℕ) → getD (take k l) i 0 ≤ getD l i 0
+take-below zero l i = omega arith
+take-below (suc k) [] i = omega arith
+take-below (suc k) (x ∷ l) zero = omega arith
+take-below (suc k) (x ∷ l) (suc i) = take-below k l i
+
 take-least : (k : ℕ) (l : List ℕ) (i most : ℕ) → getD l i 0 ≤ most → getD (take k l) i 0 ≤ most
-take-least zero l i most h = omega arith
-take-least (suc k) [] i most h = omega arith
-take-least (suc k) (x ∷ l) zero most h = h
-take-least (suc k) (x ∷ l) (suc i) most h = take-least k l i most h
+take-least k l i most h = omega (arith, take-below k l i)
 
 module _ {kind : Kind} {hs ws gs : List ℕ} (s : StackLists kind hs ws gs) (k : ℕ) (h : k ≤ length hs) where
   pub lists-take : StackLists kind (take k hs) (take k ws) (take k gs)
   lists-take =
       let a = length-take-le k hs h in
       let b = length-take-le k ws (omega (arith, s .same-widths)) in
-      let d = length-take-le k gs (omega (arith, s .same-gaps)) in
+      let d = length-take-le k gs (omega (arith, s .same-seams)) in
       record {
         same-widths = omega arith;
-        same-gaps = omega arith;
+        same-seams = omega arith;
         few = omega (arith, s .few);
         tall = λ i l. rw (getD-take k hs i 0 (omega arith)) (s .tall i (omega arith));
         low = λ i. take-least k hs i 4000 (s .low i);
         wide = λ i l. rw (getD-take k ws i 0 (omega arith)) (s .wide i (omega arith));
         slim = λ i. take-least k ws i 4000 (s .slim i);
-        near = λ i. take-least k gs i 4000 (s .near i);
+        near = λ i. omega (arith, take-below k gs i, s .near i);
       }
 
   pub lists-drop : StackLists kind (drop k hs) (drop k ws) (drop k gs)
@@ -54,7 +58,7 @@ module _ {kind : Kind} {hs ws gs : List ℕ} (s : StackLists kind hs ws gs) (k :
       let d = length-drop k gs in
       record {
         same-widths = omega (arith, s .same-widths);
-        same-gaps = omega (arith, s .same-gaps);
+        same-seams = omega (arith, s .same-seams);
         few = omega (arith, s .few);
         tall = λ i l. rw (getD-drop k hs i 0) (s .tall (k + i) (omega arith));
         low = λ i. rw (getD-drop k hs i 0) (s .low (k + i));

@@ -12,7 +12,7 @@ use Rattle.folding.specs.declared.Placement.{Placement}
 use Rattle.folding.specs.Placement.{groupOf, left, placedOf}
 use Rattle.folding.specs.Legal.{Legal}
 use Rattle.folding.specs.Outline.{groupsOf, groupWidth, groupHeight, lastGap, layoutWidth, layoutHeight, outlineOf}
-use Rattle.folding.proofs.Rules.{Alone, LegalFrom, legal-is, legal-of}
+use Rattle.folding.proofs.Rules.{Alone, LegalFrom, Unparted, legal-is}
 use Rattle.folding.proofs.Groups.{Run, cut, paste-width, paste-height}
 use Rattle.folding.proofs.Sides.{Fronted}
 use Rattle.model.specs.Groups.{isEnd, Rule, Group, membersOf, widthOf, heightOf, Stands, LayoutOf}
@@ -30,6 +30,7 @@ use Rattle.group.proofs.Exact.{GroupFolds}
 use Rattle.layout.specs.Layout.{groupsBy, layoutOf}
 use Rattle.layout.proofs.Folds.{Folds, placed-append, folds-none, folds-join}
 use Rattle.layout.proofs.Groups.{legalGroup, Stacked, groups-laws}
+use Rattle.layout.proofs.Marks.{rest-unparted, end-free, fold-free, join-allowed, legal-obeys, obeys-legal}
 
 -- Placed components, taken apart and put together again.
 abbrev placementsIn : List Placed → List Placement
@@ -59,18 +60,20 @@ components-end [] = refl
 components-end (x ∷ l) = refl
 
 -- What foldings obey beside the rules of `LegalFrom`, and what ways of standing are allowed to their groups, say the same: of a
--- first group x and a, and the rest b.
+-- first group x and a, and the rest b. What they obey holds the rule of marks, which every legal folding keeps.
 pub record Agrees (kind : Kind) (may : Bool → May) (Obeys : List Placed → Type 0) : Type 0 where
   pub fits : (last : Bool) → Suits kind (may last)
+  pub marks : (l : List Placed) → Obeys l → Unparted l
   pub nothing : Obeys []
   pub cuts : (x : Placed) (a b : List Placed) → left x ≡ true → Alone kind x → Run kind x a → LegalFrom kind (groupOf x + 1) b → Obeys (x ∷ (a ++ b))
       → Obeys b × (may (isEnd b) (componentsOf (x ∷ a)) (leftsIn (x ∷ a)) ≡ true)
   pub joins : (x : Placed) (a b : List Placed) → left x ≡ true → Run kind x a → LegalFrom kind (groupOf x + 1) b → Obeys b
       → may (isEnd b) (componentsOf (x ∷ a)) (leftsIn (x ∷ a)) ≡ true → Obeys (x ∷ (a ++ b))
 
--- A legal folding that obeys.
+-- A folding that keeps the rules of `LegalFrom`, and obeys.
 pub record LegalBy (kind : Kind) (Obeys : List Placed → Type 0) (cs : List Component) (ps : List Placement) : Type 0 where
-  pub is-legal : Legal kind cs ps
+  pub whole : length ps ≡ length cs
+  pub rules : LegalFrom kind 0 (placedOf cs ps)
   pub obeys : Obeys (placedOf cs ps)
 
 module _ {kind : Kind} {may : Bool → May} {Obeys : List Placed → Type 0} (agrees : Agrees kind may Obeys) where
@@ -148,17 +151,18 @@ module _ {kind : Kind} {may : Bool → May} {Obeys : List Placed → Type 0} (ag
   unfolding placedOf
   joined m g0 [] s = ([], folds-none kind m g0, agrees .nothing)
   joined m g0 (g ∷ gs) s =
-      let r = joined (m + 1) (gapAfter (g .members)) gs (s .1) in (
+      let r = joined (m + 1) (gapAfter (g .members)) gs (s .1) in
+      let o = join-obeys m (g .members) (membersOf gs) (s .0 .0) (r .0) (s .0 .1 .whole) (r .1 .whole) (s .0 .1 .group) (r .1 .legal) (s .0 .2) (r .2) in (
         s .0 .0 ++ r .0,
-        folds-join kind m g0 (g .members) (s .0 .0) (g .width) (g .height) (membersOf gs) (r .0) (widthOf gs) (heightOf gs) (s .0 .1) (r .1),
-        join-obeys m (g .members) (membersOf gs) (s .0 .0) (r .0) (s .0 .1 .whole) (r .1 .whole) (s .0 .1 .group) (r .1 .legal) (s .0 .2) (r .2),
+        folds-join kind m g0 (g .members) (s .0 .0) (g .width) (g .height) (membersOf gs) (r .0) (widthOf gs) (heightOf gs) (s .0 .1) (r .1) (agrees .marks _ o),
+        o,
       )
 
   legal-layout : (cs : List Component) (ps : List Placement) → LegalBy kind Obeys cs ps
       → (gs : List (Group Component)) × LayoutOf (λ x. gap x) Legally cs gs × (outline (widthOf gs) (heightOf gs) ≡ outlineOf cs ps)
   legal-layout cs ps l =
-      let c = cuts (length (placedOf cs ps)) 0 0 (placedOf cs ps) (omega arith) (legal-is kind (placedOf cs ps) (l .is-legal .rules)) (l .obeys) in
-      (c .groups, record { stands = c .stands; holds = c .holds ∙ components-placed cs ps (l .is-legal .whole) }, rw (c .width, c .height))
+      let c = cuts (length (placedOf cs ps)) 0 0 (placedOf cs ps) (omega arith) (l .rules) (l .obeys) in
+      (c .groups, record { stands = c .stands; holds = c .holds ∙ components-placed cs ps (l .whole) }, rw (c .width, c .height))
 
   layout-legal : (cs : List Component) (gs : List (Group Component)) → LayoutOf (λ x. gap x) Legally cs gs
       → (ps : List Placement) × LegalBy kind Obeys cs ps × (outlineOf cs ps ≡ outline (widthOf gs) (heightOf gs))
@@ -166,19 +170,26 @@ module _ {kind : Kind} {may : Bool → May} {Obeys : List Placed → Type 0} (ag
       let r = joined 0 0 gs (l .stands) in
       let f = subst (λ (k : List Component). Folds kind 0 0 k (r .0) (widthOf gs) (heightOf gs)) (l .holds) (r .1) in
       let o = subst (λ (k : List Component). Obeys (placedOf k (r .0))) (l .holds) (r .2) in
-      (r .0, record { is-legal = record { whole = f .whole; rules = legal-of kind (placedOf cs (r .0)) (f .legal) }; obeys = o }, rw (f .width, f .height))
+      (r .0, record { whole = f .whole; rules = f .legal; obeys = o }, rw (f .width, f .height))
 
   pub search-by : (cs : List Component) → Stacked cs → Search (LegalBy kind Obeys cs) (outlineOf cs) (λ limit. layoutFor (groupsBy may) limit 0 cs)
   search-by cs s = transfer (legal-layout cs) (layout-legal cs) (layouts-search (groups-laws kind may (agrees .fits)) cs (s .some) (s .good))
 
--- Document 01 has no rule beside those of `LegalFrom`, and every way of a legal group is allowed.
-no-more : (kind : Kind) → Agrees kind (λ last. mayStand kind) (λ l. Unit {0})
-no-more kind = record {
+-- Document 01 has no rule beside those of `LegalFrom`; ticket 3 has that of the marks.
+marked : (kind : Kind) → Agrees kind (λ last. mayStand kind) Unparted
+marked kind = record {
   fits = λ last. suits kind;
+  marks = λ l u. u;
   nothing = tt;
-  cuts = λ x a b l e r f o. (tt, stands-allowed kind (componentsOf (x ∷ a)) (leftsIn (x ∷ a)) (group-stands kind x a l e r));
-  joins = λ x a b l r f o w. tt;
+  cuts = λ x a b l e r f u. (
+    rest-unparted kind x a b u,
+    stands-allowed kind (componentsOf (x ∷ a)) (leftsIn (x ∷ a)) (group-stands kind x a l e r) (fold-free kind x a b l r f u) (end-free kind x a b r f u),
+  );
+  joins = λ x a b l r f u w. join-allowed kind x a b l r u w;
 }
 
 pub search : (kind : Kind) (cs : List Component) → Stacked cs → Search (Legal kind cs) (outlineOf cs) (λ limit. layoutOf kind limit 0 cs)
-search kind cs s = transfer (λ ps l. (ps, record { is-legal = l; obeys = tt }, refl)) (λ ps l. (ps, l .is-legal, refl)) (search-by (no-more kind) cs s)
+search kind cs s = transfer
+    (λ ps l. (ps, record { whole = l .whole; rules = legal-is kind (placedOf cs ps) (l .rules); obeys = legal-obeys kind cs ps (s .free) l }, refl))
+    (λ ps l. (ps, obeys-legal kind cs ps (l .whole) (l .rules) (l .obeys), refl))
+    (search-by (marked kind) cs s)

@@ -17,7 +17,7 @@ use Rattle.folding.specs.Outline.{groupWidth, groupHeight}
 use Rattle.model.specs.Groups.{gapBehind, Rule}
 use Rattle.model.specs.Laws.{Laws}
 use Rattle.model.proofs.Choice.{no-wider-nor-higher}
-use Rattle.group.specs.Group.{gapAfter, May, leastHeightBy, leastWidthBy, groupPlaces}
+use Rattle.group.specs.Group.{gapAfter, May, unbarred, leastHeightBy, leastWidthBy, groupPlaces}
 use Rattle.group.proofs.Lower.{componentsOf, leftsIn, Measured, measured, measured-least, least-width}
 use Rattle.group.proofs.Placed.{components-placed}
 use Rattle.group.proofs.Exact.{GroupFolds, least-keeps, least-reached, stands-so}
@@ -39,6 +39,7 @@ pub record Good (cs : List Component) : Type 0 where
 pub record Stacked (cs : List Component) : Type 0 where
   pub some : 0 < length cs
   pub good : Good cs
+  pub free : unbarred cs ≡ true
 
 pub sized-parts : (a b : List Component) → AllSized (a ++ b) → AllSized a × AllSized b
 sized-parts [] b s = (tt, s)

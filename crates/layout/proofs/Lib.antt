@@ -1,5 +1,6 @@
 pub mod Bounds
 pub mod Groups
+pub mod Marks
 pub mod Folds
 pub mod Foldings
 pub mod Best

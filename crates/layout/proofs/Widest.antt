@@ -70,4 +70,4 @@ module _ (kind : Kind) (cs : List Component) (s : Stacked cs) where
 
   pub flat-enough : layoutOf kind (flatHeight 0 cs) 0 cs .width ≤ widest cs
   flat-enough =
-      layout-flat (λ last. mayStand kind) (flatHeight 0 cs) 0 cs (s .some) (omega (arith, widest-most cs (s .good .sized))) (flat-allowed kind cs (s .some)) (omega arith)
+      layout-flat (λ last. mayStand kind) (flatHeight 0 cs) 0 cs (s .some) (omega (arith, widest-most cs (s .good .sized))) (flat-allowed kind cs (s .some) (s .free)) (omega arith)

@@ -19,7 +19,7 @@ groupsBy may = record {
   height = λ limit g0 last cs. leastHeightBy (may last) g0 cs (leastWidthBy (may last) g0 cs limit);
 }
 
--- The groups of document 01. It does not matter to them whether a group stands last.
+-- The groups of document 01, with the marks of ticket 3. It does not matter to them whether a group stands last.
 abbrev pub groups : Kind → Model Component
 groups kind = groupsBy (λ last. mayStand kind)
 

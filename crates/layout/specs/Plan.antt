@@ -7,19 +7,20 @@ use Rattle.terms.specs.Numbers.{mostSize}
 use Rattle.terms.specs.declared.Component.{Component}
 use Rattle.terms.specs.declared.Kind.{Kind}
 use Rattle.terms.specs.Component.{mostOf}
+use Rattle.terms.specs.Seams.{gapAt}
 use Rattle.layout.specs.Layout.{Layout, unmet, layouts}
 
--- The columns of a stack, or of what is left of one: as many widths and gaps as heights, no more than the kind takes, and
--- each number in its range.
+-- The columns of a stack, or of what is left of one, which are called hs, ws and gs throughout: as many widths and seams as
+-- heights, no more than the kind takes, and each number in its range.
 pub record StackLists (kind : Kind) (hs ws gs : List ℕ) : Type 0 where
   pub same-widths : length ws ≡ length hs
-  pub same-gaps : length gs ≡ length hs
+  pub same-seams : length gs ≡ length hs
   pub few : length hs ≤ mostOf kind
   pub tall : (i : ℕ) → i < length hs → 1 ≤ getD hs i 0
   pub low : (i : ℕ) → getD hs i 0 ≤ mostSize
   pub wide : (i : ℕ) → i < length hs → 1 ≤ getD ws i 0
   pub slim : (i : ℕ) → getD ws i 0 ≤ mostSize
-  pub near : (i : ℕ) → getD gs i 0 ≤ mostSize
+  pub near : (i : ℕ) → gapAt gs i ≤ mostSize
 
 -- The entry with j components before it.
 pub record PlannedAt (l : Layout) (width height end : ℕ) : Type 0 where

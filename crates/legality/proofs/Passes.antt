@@ -10,7 +10,7 @@ use Rattle.terms.proofs.Bools.{both}
 use Rattle.terms.proofs.Tabulate.{tabulate-drop, tabulate-end}
 use Rattle.folding.specs.declared.Placed.{Placed}
 use Rattle.folding.specs.Placement.{groupOf, startOf, left}
-use Rattle.folding.specs.Legal.{legal}
+use Rattle.folding.specs.Legal.{unparted, legal}
 use Rattle.folding.proofs.Rules.{aloneRules, nextRules, passes, alone-is, legal-passes}
 
 -- The pass of a legal folding, of which n components are tabulated.
@@ -29,7 +29,7 @@ module _ (kind : Kind) (g : ℕ → Placed) (n : ℕ) where
     pass-opened z = rw (opened, z)
 
   module _ (x y : Placed) (i : ℕ) (h : i < n) (e : y ≡ g i) {whole : Bool} (p : passes kind x (drop i (tabulate g n)) ≡ whole) where
-    here : (aloneRules kind y && nextRules x y && passes kind y (drop (i + 1) (tabulate g n))) ≡ whole
+    here : (aloneRules kind y && nextRules x y && unparted x y && passes kind y (drop (i + 1) (tabulate g n))) ≡ whole
     unfolding passes
     here = rw (tabulate-drop g n i h, ← e) at p
 
@@ -39,8 +39,11 @@ module _ (kind : Kind) (g : ℕ → Placed) (n : ℕ) where
     pub pass-broken : aloneRules kind y ≡ true → nextRules x y ≡ false → false ≡ whole
     pass-broken a f = rw (a, f) at here
 
-    pub pass-on : aloneRules kind y ≡ true → nextRules x y ≡ true → passes kind y (drop (i + 1) (tabulate g n)) ≡ whole
-    pass-on a f = rw (a, f) at here
+    pub pass-parted : aloneRules kind y ≡ true → nextRules x y ≡ true → unparted x y ≡ false → false ≡ whole
+    pass-parted a f u = rw (a, f, u) at here
+
+    pub pass-on : aloneRules kind y ≡ true → nextRules x y ≡ true → unparted x y ≡ true → passes kind y (drop (i + 1) (tabulate g n)) ≡ whole
+    pass-on a f u = rw (a, f, u) at here
 
   pub pass-done : (x : Placed) (i : ℕ) {whole : Bool} → n ≤ i → passes kind x (drop i (tabulate g n)) ≡ whole → true ≡ whole
   unfolding passes

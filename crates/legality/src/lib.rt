@@ -6,7 +6,7 @@ ghost use lib.ListN.{length};
 ghost use lib.Dec.{eqb};
 ghost use Rattle.folding.specs.Placement.{heightOf, groupOf, startOf, endOf, left};
 ghost use Rattle.folding.specs.Legal.{mostStart, legal, inRange, onSide};
-ghost use Rattle.folding.specs.Legal.{sameGroup, inOrder, leftFirst, leftClear, rightClear};
+ghost use Rattle.folding.specs.Legal.{sameGroup, inOrder, leftFirst, leftClear, rightClear, unparted};
 ghost use Rattle.folding.specs.Asks.{placedAt, placedIn, Listed};
 use folding::MOST_START;
 use folding::Placed;
@@ -15,14 +15,14 @@ use numbers::component;
 use terms::Kind;
 use terms::Rows;
 
-fn placed_at(heights: &[u16], widths: &[u16], gaps: &[u16], flat: &[u32], i: usize) -> Placed
-    requires { ⌜ Listed (now heights) (now widths) (now gaps) (now flat) × (i < length (now heights)) ⌝ }
+fn placed_at(heights: &[u16], widths: &[u16], seams: &[u16], flat: &[u32], i: usize) -> Placed
+    requires { ⌜ Listed (now heights) (now widths) (now seams) (now flat) × (i < length (now heights)) ⌝ }
     ensures { λ r. ⌜ r
-        ≡ placedAt (now (heights .entry)) (now (widths .entry)) (now (gaps .entry)) (now (flat .entry)) i ⌝ }
+        ≡ placedAt (now (heights .entry)) (now (widths .entry)) (now (seams .entry)) (now (flat .entry)) i ⌝ }
     ensures { λ r. ⌜ heightOf r < 65536 ⌝ }
 {
     Placed {
-        component: component(heights, widths, gaps, i),
+        component: component(heights, widths, seams, i),
         placement: Placement {
             group: flat[3 * i],
             side: flat[3 * i + 1],
@@ -94,23 +94,41 @@ fn may_follow(x: Placed, y: Placed) -> bool
     false
 }
 
-// Whether the placements are legal, in one pass.
-pub fn is_legal(kind: Kind, heights: &[u16], widths: &[u16], gaps: &[u16], flat: &[u32]) -> bool
-    requires { ⌜ Listed (now heights) (now widths) (now gaps) (now flat) × (0 < length (now heights)) ⌝ }
-    ensures { λ r. ⌜ r
-        ≡ legal kind (placedIn (now (heights .entry)) (now (widths .entry)) (now (gaps .entry)) (now (flat .entry))) ⌝ }
+// Whether no fold parts y from x where one is barred between them.
+fn stays_with(x: Placed, y: Placed) -> bool
+    ensures { λ r. ⌜ r ≡ unparted x y ⌝ }
 {
-    let mut x = placed_at(heights, widths, gaps, flat, 0);
+    let p = x.placement;
+    let q = y.placement;
+    if x.component.mark == 1 {
+        if q.group == p.group {
+            return q.side == p.side;
+        }
+        return false;
+    }
+    true
+}
+
+// Whether the placements are legal, in one pass.
+pub fn is_legal(kind: Kind, heights: &[u16], widths: &[u16], seams: &[u16], flat: &[u32]) -> bool
+    requires { ⌜ Listed (now heights) (now widths) (now seams) (now flat) × (0 < length (now heights)) ⌝ }
+    ensures { λ r. ⌜ r
+        ≡ legal kind (placedIn (now (heights .entry)) (now (widths .entry)) (now (seams .entry)) (now (flat .entry))) ⌝ }
+{
+    let mut x = placed_at(heights, widths, seams, flat, 0);
     if !may_open(kind, x) {
         return false;
     }
     let mut i = 1;
     while i < heights.len() {
-        let y = placed_at(heights, widths, gaps, flat, i);
+        let y = placed_at(heights, widths, seams, flat, i);
         if !stands_alone(kind, y) {
             return false;
         }
         if !may_follow(x, y) {
+            return false;
+        }
+        if !stays_with(x, y) {
             return false;
         }
         x = y;

@@ -1,6 +1,6 @@
 // Measuring a folding, and choosing the better of two.
 ghost use mathlib.Core.Path.{_≡_};
-ghost use Rattle.terms.specs.Component.{componentsIn};
+ghost use Rattle.terms.specs.Seams.{componentsIn};
 ghost use Rattle.folding.specs.Calls.{measuredAnswer, measureIn, measureOf, chooseOf, secondWins, winnerIs};
 ghost use Rattle.folding.specs.Asks.{StackIn};
 ghost use Rattle.measure.specs.Inner.{FirstIn, measureFirst, betterFirst};
@@ -17,21 +17,21 @@ fn measure_lists(
     kind: Kind,
     heights: &[u16],
     widths: &[u16],
-    gaps: &[u16],
+    seams: &[u16],
     flat: &[u32],
 ) -> Measured
-    requires { ⌜ StackIn (now heights) (now widths) (now gaps) ⌝ }
+    requires { ⌜ StackIn (now heights) (now widths) (now seams) ⌝ }
     ensures { λ r. ⌜ measuredAnswer r
-        ≡ measureIn kind (componentsIn (now (heights .entry)) (now (widths .entry)) (now (gaps .entry)))
+        ≡ measureIn kind (componentsIn (now (heights .entry)) (now (widths .entry)) (now (seams .entry)))
         (now (flat .entry)) ⌝ }
 {
     if flat.len() / 3 < heights.len() {
         return Measured::Refused(Refusal::ShortBuffer);
     }
-    if !legality::is_legal(kind, heights, widths, gaps, flat) {
+    if !legality::is_legal(kind, heights, widths, seams, flat) {
         return Measured::Refused(Refusal::BrokenFolding);
     }
-    Measured::Outlined(outline::outline_of(heights, widths, gaps, flat))
+    Measured::Outlined(outline::outline_of(heights, widths, seams, flat))
 }
 
 // Measures a stack that stands in the first n entries of three lists.
@@ -40,14 +40,14 @@ fn measure_first(
     n: usize,
     heights: &[u16],
     widths: &[u16],
-    gaps: &[u16],
+    seams: &[u16],
     flat: &[u32],
 ) -> Measured
-    requires { ⌜ FirstIn n (now heights) (now widths) (now gaps) ⌝ }
+    requires { ⌜ FirstIn n (now heights) (now widths) (now seams) ⌝ }
     ensures { λ r. ⌜ measuredAnswer r
-        ≡ measureFirst kind n (now (heights .entry)) (now (widths .entry)) (now (gaps .entry)) (now (flat .entry)) ⌝ }
+        ≡ measureFirst kind n (now (heights .entry)) (now (widths .entry)) (now (seams .entry)) (now (flat .entry)) ⌝ }
 {
-    measure_lists(kind, &heights[..n], &widths[..n], &gaps[..n], flat)
+    measure_lists(kind, &heights[..n], &widths[..n], &seams[..n], flat)
 }
 
 pub fn measure(file: &[u8], kind: Kind, flat: &[u32]) -> Measured
@@ -55,10 +55,10 @@ pub fn measure(file: &[u8], kind: Kind, flat: &[u32]) -> Measured
 {
     let mut heights = [0u16; MOST_APART];
     let mut widths = [0u16; MOST_APART];
-    let mut gaps = [0u16; MOST_APART];
-    match stack::read_as(file, kind, &mut heights, &mut widths, &mut gaps) {
+    let mut seams = [0u16; MOST_APART];
+    match stack::read_seams(file, kind, &mut heights, &mut widths, &mut seams) {
         Counted::Refused(k) => Measured::Refused(k),
-        Counted::Count(n) => measure_first(kind, n, &heights, &widths, &gaps, flat),
+        Counted::Count(n) => measure_first(kind, n, &heights, &widths, &seams, flat),
     }
 }
 
@@ -98,16 +98,16 @@ fn better_of(
     n: usize,
     heights: &[u16],
     widths: &[u16],
-    gaps: &[u16],
+    seams: &[u16],
     first: &[u32],
     second: &[u32],
 ) -> Winner
-    requires { ⌜ FirstIn n (now heights) (now widths) (now gaps) ⌝ }
+    requires { ⌜ FirstIn n (now heights) (now widths) (now seams) ⌝ }
     ensures { λ r. ⌜ r ≡ betterFirst kind n
-        (now (heights .entry)) (now (widths .entry)) (now (gaps .entry)) (now (first .entry)) (now (second .entry)) ⌝ }
+        (now (heights .entry)) (now (widths .entry)) (now (seams .entry)) (now (first .entry)) (now (second .entry)) ⌝ }
 {
-    let a = measure_first(kind, n, heights, widths, gaps, first);
-    let b = measure_first(kind, n, heights, widths, gaps, second);
+    let a = measure_first(kind, n, heights, widths, seams, first);
+    let b = measure_first(kind, n, heights, widths, seams, second);
     better(a, b)
 }
 
@@ -116,12 +116,12 @@ pub fn choose<'a>(file: &[u8], kind: Kind, first: &'a [u32], second: &'a [u32]) 
 {
     let mut heights = [0u16; MOST_APART];
     let mut widths = [0u16; MOST_APART];
-    let mut gaps = [0u16; MOST_APART];
-    match stack::read_as(file, kind, &mut heights, &mut widths, &mut gaps) {
+    let mut seams = [0u16; MOST_APART];
+    match stack::read_seams(file, kind, &mut heights, &mut widths, &mut seams) {
         Counted::Refused(_) => &first[..0],
         Counted::Count(n) => {
             let end = 3 * n;
-            match better_of(kind, n, &heights, &widths, &gaps, first, second) {
+            match better_of(kind, n, &heights, &widths, &seams, first, second) {
                 Winner::First => &first[..end],
                 Winner::Second => &second[..end],
                 Winner::Neither => &first[..0],

@@ -14,7 +14,7 @@ abbrev pub isEnd : {C : Type 0} → List C → Bool
 isEnd [] = true
 isEnd (c ∷ cs) = false
 
--- The gap behind the last one.
+-- A number of the last one, such as the gap behind it.
 unfoldable pub gapBehind : {C : Type 0} → (C → ℕ) → List C → ℕ
 gapBehind gap [] = 0
 gapBehind gap (x ∷ []) = gap x

@@ -4,7 +4,7 @@ use mathlib.Core.List.{List}
 use lib.ListN.{length}
 
 -- Entry i stands in each of them.
-pub record InLists (i : ℕ) (heights widths gaps : List ℕ) : Type 0 where
+pub record InLists (i : ℕ) (heights widths seams : List ℕ) : Type 0 where
   pub in-heights : i < length heights
   pub in-widths : i < length widths
-  pub in-gaps : i < length gaps
+  pub in-seams : i < length seams

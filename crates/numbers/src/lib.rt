@@ -3,7 +3,7 @@ ghost use mathlib.Core.Path.{_≡_};
 ghost use Prim.Native.Nat.{_+_, _*_, _≤_, _<_, min, max};
 ghost use lib.ListN.{length, getD};
 ghost use Rattle.terms.specs.Numbers.{mostNested};
-ghost use Rattle.terms.specs.Component.{componentIn};
+ghost use Rattle.terms.specs.Seams.{gapAt, markAt, barredAt, componentIn};
 ghost use Rattle.numbers.specs.Columns.{InLists};
 ghost use Rattle.numbers.specs.Table.{stride, cells};
 use terms::Component;
@@ -31,16 +31,40 @@ pub fn get(column: &[u16], i: usize) -> u32
     wide(column[i])
 }
 
+// The gap in a seam of a column, and the mark.
+pub fn gap(seams: &[u16], i: usize) -> u32
+    requires { ⌜ i < length (now seams) ⌝ }
+    ensures { λ r. ⌜ r ≡ gapAt (now (seams .entry)) i ⌝ }
+    ensures { λ r. ⌜ r < 65536 ⌝ }
+{
+    get(seams, i) / 2
+}
+
+pub fn mark(seams: &[u16], i: usize) -> u32
+    requires { ⌜ i < length (now seams) ⌝ }
+    ensures { λ r. ⌜ r ≡ markAt (now (seams .entry)) i ⌝ }
+{
+    get(seams, i) % 2
+}
+
+pub fn barred(seams: &[u16], i: usize) -> bool
+    requires { ⌜ i < length (now seams) ⌝ }
+    ensures { λ r. ⌜ r ≡ barredAt (now (seams .entry)) i ⌝ }
+{
+    mark(seams, i) == 1
+}
+
 // The component at one place of three columns.
-pub fn component(heights: &[u16], widths: &[u16], gaps: &[u16], i: usize) -> Component
-    requires { ⌜ InLists i (now heights) (now widths) (now gaps) ⌝ }
-    ensures { λ r. ⌜ r ≡ componentIn (now (heights .entry)) (now (widths .entry)) (now (gaps .entry)) i ⌝ }
+pub fn component(heights: &[u16], widths: &[u16], seams: &[u16], i: usize) -> Component
+    requires { ⌜ InLists i (now heights) (now widths) (now seams) ⌝ }
+    ensures { λ r. ⌜ r ≡ componentIn (now (heights .entry)) (now (widths .entry)) (now (seams .entry)) i ⌝ }
     ensures { λ r. ⌜ r .height .0 < 65536 ⌝ }
 {
     Component {
         height: Rows(get(heights, i)),
         width: Slices(get(widths, i)),
-        gap: Rows(get(gaps, i)),
+        gap: Rows(gap(seams, i)),
+        mark: mark(seams, i),
     }
 }
 

@@ -6,10 +6,11 @@ use mathlib.Core.List.{List, [], _∷_, _++_}
 use mathlib.Core.Bool.{true, false, cond}
 use native.Mathlib.Nat.{eq-or-lt-of-le, add-zero}
 use native.Mathlib.Omega.{arith}
-use lib.ListN.{length, getD, drop}
+use lib.ListN.{length, drop}
 use lib.Dec.{ltb}
 use borrow.Author.Tests.{lt-ltb, le-ltb, eq-eqb, ne-eqb}
 use Rattle.terms.specs.Component.{tabulate}
+use Rattle.terms.specs.Seams.{gapAt}
 use Rattle.terms.proofs.Tabulate.{tabulate-drop, tabulate-end, tabulate-front, tabulate-same}
 use Rattle.folding.specs.declared.Placed.{Placed}
 use Rattle.folding.specs.Placement.{widthOf, gapOf, groupOf, endOf, left}
@@ -114,9 +115,9 @@ module _ (g : ℕ → Placed) (n : ℕ) (from to : ℕ) (within : to ≤ n) (sam
       (cut-from (to - from - 1) from (omega arith) (omega arith))
 
 -- The height of a group that stands in lists.
-module _ (hs ws gs flat : List ℕ) (k : ℕ) (some : 0 < length hs) (first : sideAt flat 0 ≡ 0) (l : Lefts flat (length hs) k) (g0 : ℕ) where
+module _ (hs ws seams flat : List ℕ) (k : ℕ) (some : 0 < length hs) (first : sideAt flat 0 ≡ 0) (l : Lefts flat (length hs) k) (g0 : ℕ) where
   g : ℕ → Placed
-  g = placedAt hs ws gs flat
+  g = placedAt hs ws seams flat
 
   pub has-left : 0 < k
   has-left = go (eq-or-lt-of-le {n = 0} {m = k} (omega arith))
@@ -125,22 +126,22 @@ module _ (hs ws gs flat : List ℕ) (k : ℕ) (some : 0 < length hs) (first : si
       go (inl e) = absurd (l .next (omega arith) (rw (← e) first))
       go (inr h) = h
 
-  last : lastGap (placedIn hs ws gs flat) ≡ getD gs (length hs - 1) 0
+  last : lastGap (placedIn hs ws seams flat) ≡ gapAt seams (length hs - 1)
   unfolding g
   last =
       let e : suc (length hs - 1) ≡ length hs = omega arith in
-      subst (λ (n : ℕ). lastGap (tabulate g n) ≡ getD gs (length hs - 1) 0) e (gap-tabulate g (length hs - 1))
+      subst (λ (n : ℕ). lastGap (tabulate g n) ≡ gapAt seams (length hs - 1)) e (gap-tabulate g (length hs - 1))
 
-  fold : folded (placedIn hs ws gs flat) ≡ ltb k (length hs)
+  fold : folded (placedIn hs ws seams flat) ≡ ltb k (length hs)
   unfolding g
   fold = folded-tabulate g (length hs) k (l .within) (λ i h. eq-eqb _ _ (l .on-left i h)) (λ h. ne-eqb _ _ (l .next h))
 
-  pub height-folded : k < length hs → groupHeight g0 (placedIn hs ws gs flat) ≡ greatest (endAt hs flat) (length hs) + max g0 (getD gs (length hs - 1) 0) + getD gs (k - 1) 0
+  pub height-folded : k < length hs → groupHeight g0 (placedIn hs ws seams flat) ≡ greatest (endAt hs flat) (length hs) + max g0 (gapAt seams (length hs - 1)) + gapAt seams (k - 1)
   unfolding g
   height-folded h =
-      let f : foldGap (placedIn hs ws gs flat) ≡ getD gs (k - 1) 0 = fold-tabulate g (length hs) k (l .within) (λ i m. eq-eqb _ _ (l .on-left i m)) (λ m. ne-eqb _ _ (l .next m)) h has-left in
+      let f : foldGap (placedIn hs ws seams flat) ≡ gapAt seams (k - 1) = fold-tabulate g (length hs) k (l .within) (λ i m. eq-eqb _ _ (l .on-left i m)) (λ m. ne-eqb _ _ (l .next m)) h has-left in
       rw (fold, lt-ltb k (length hs) h, top-tabulate g (length hs), last, f)
 
-  pub height-flat : length hs ≤ k → groupHeight g0 (placedIn hs ws gs flat) ≡ greatest (endAt hs flat) (length hs) + g0 + getD gs (length hs - 1) 0
+  pub height-flat : length hs ≤ k → groupHeight g0 (placedIn hs ws seams flat) ≡ greatest (endAt hs flat) (length hs) + g0 + gapAt seams (length hs - 1)
   unfolding g
   height-flat h = rw (fold, le-ltb k (length hs) h, top-tabulate g (length hs), last)

@@ -191,12 +191,12 @@ module _ {hs ws flat : List ℕ} {k : ℕ} (v : GroupWide hs ws flat) (sides : C
         more row = omega (arith, grows row, total-more (shareAt hs ws flat row) high)
 
     pub sweep-done : length hs ≤ high - low → WidthIs hs ws flat width
-    sweep-done h gs =
-        le-antisymm (omega (arith, all (p .peak .row), p .peak .reached, row-most (placedIn hs ws gs flat) (p .peak .row)))
-        (greatest-le (rowSum (placedIn hs ws gs flat)) (topOf (placedIn hs ws gs flat)) width (λ row l. omega (arith, all row, p .peak .most row)))
+    sweep-done h seams =
+        le-antisymm (omega (arith, all (p .peak .row), p .peak .reached, row-most (placedIn hs ws seams flat) (p .peak .row)))
+        (greatest-le (rowSum (placedIn hs ws seams flat)) (topOf (placedIn hs ws seams flat)) width (λ row l. omega (arith, all row, p .peak .most row)))
       where
-        all : (row : ℕ) → startedSum hs ws flat low high row ≡ rowSum (placedIn hs ws gs flat) row
+        all : (row : ℕ) → startedSum hs ws flat low high row ≡ rowSum (placedIn hs ws seams flat) row
         all row =
             let z : low ≡ 0 = omega (arith, p .inside) in
             let y : high ≡ length hs = omega (arith, p .inside) in
-            rw (z, y) (omega (arith, total-none (shareAt hs ws flat row), sum-tabulate (placedAt hs ws gs flat) row (length hs)))
+            rw (z, y) (omega (arith, total-none (shareAt hs ws flat row), sum-tabulate (placedAt hs ws seams flat) row (length hs)))

@@ -7,6 +7,7 @@ use lib.ListN.{length, getD, take, drop, length-drop}
 use lib.Seq.{getD-take, getD-drop, length-take-le}
 use borrow.Author.Tests.{eqb-true, eqb-false}
 use Rattle.terms.specs.Component.{tabulate}
+use Rattle.terms.specs.Seams.{gapAt}
 use Rattle.terms.proofs.Tabulate.{tabulate-same, tabulate-end}
 use Rattle.folding.specs.declared.Placed.{Placed}
 use Rattle.folding.specs.Outline.{groupWidth, groupHeight, lastGap, groupsOf, layoutWidth, layoutHeight}
@@ -27,28 +28,28 @@ part-at : (a e j : ℕ) (l : List ℕ) → j < e - a → getD (part a e l) j 0 �
 part-at a e j l h = getD-take (e - a) (drop a l) j 0 h ∙ getD-drop a l j 0
 
 -- What is found so far, of the components before `from`, and what is left.
-pub record Walked (hs ws gs flat : List ℕ) (width height before from : ℕ) : Type 0 where
+pub record Walked (hs ws seams flat : List ℕ) (width height before from : ℕ) : Type 0 where
   pub inside : from ≤ length hs
-  pub width-left : width + layoutWidth (groupsOf (drop from (placedIn hs ws gs flat))) ≡ layoutWidth (groupsOf (placedIn hs ws gs flat))
-  pub height-left : max height (layoutHeight before (groupsOf (drop from (placedIn hs ws gs flat)))) ≡ layoutHeight 0 (groupsOf (placedIn hs ws gs flat))
+  pub width-left : width + layoutWidth (groupsOf (drop from (placedIn hs ws seams flat))) ≡ layoutWidth (groupsOf (placedIn hs ws seams flat))
+  pub height-left : max height (layoutHeight before (groupsOf (drop from (placedIn hs ws seams flat)))) ≡ layoutHeight 0 (groupsOf (placedIn hs ws seams flat))
   pub bounded : width ≤ mostWidth * from
   pub small : before ≤ 65535
   pub opens : from < length hs → sideAt flat from ≡ 0
 
 -- What the rules say of two neighbours, at their places.
-beside-of : (hs ws gs flat : List ℕ) (i : ℕ) → Within (placedAt hs ws gs flat i) (placedAt hs ws gs flat (i + 1)) → Beside hs flat i
-beside-of hs ws gs flat i (down u v e) = record { left-first = λ b. eqb-true _ _ u; left-clear = λ a b. e; right-clear = λ a b. absurd (a (eqb-true _ _ u)) }
-beside-of hs ws gs flat i (turn u v) = record { left-first = λ b. eqb-true _ _ u; left-clear = λ a b. absurd (eqb-false _ _ v b); right-clear = λ a b. absurd (a (eqb-true _ _ u)) }
-beside-of hs ws gs flat i (up u v e) = record { left-first = λ b. absurd (eqb-false _ _ v b); left-clear = λ a b. absurd (eqb-false _ _ u a); right-clear = λ a b. e }
+beside-of : (hs ws seams flat : List ℕ) (i : ℕ) → Within (placedAt hs ws seams flat i) (placedAt hs ws seams flat (i + 1)) → Beside hs flat i
+beside-of hs ws seams flat i (down u v e) = record { left-first = λ b. eqb-true _ _ u; left-clear = λ a b. e; right-clear = λ a b. absurd (a (eqb-true _ _ u)) }
+beside-of hs ws seams flat i (turn u v) = record { left-first = λ b. eqb-true _ _ u; left-clear = λ a b. absurd (eqb-false _ _ v b); right-clear = λ a b. absurd (a (eqb-true _ _ u)) }
+beside-of hs ws seams flat i (up u v e) = record { left-first = λ b. absurd (eqb-false _ _ v b); left-clear = λ a b. absurd (eqb-false _ _ u a); right-clear = λ a b. e }
 
-module _ {hs ws gs flat : List ℕ} (v : Legalised hs ws gs flat) where
+module _ {hs ws seams flat : List ℕ} (v : Legalised hs ws seams flat) where
   abbrev g : ℕ → Placed
-  g = placedAt hs ws gs flat
+  g = placedAt hs ws seams flat
 
   -- The group of components from up to to, as it stands in the lists' parts.
   module _ (from to : ℕ) (some : from < to) (within : to ≤ length hs) where
     abbrev mine : List Placed
-    mine = placedIn (part from to hs) (part from to ws) (part from to gs) (part (3 * from) (3 * to) flat)
+    mine = placedIn (part from to hs) (part from to ws) (part from to seams) (part (3 * from) (3 * to) flat)
 
     long : length (part from to hs) ≡ to - from
     long = part-length from to hs (omega arith) within
@@ -65,7 +66,7 @@ module _ {hs ws gs flat : List ℕ} (v : Legalised hs ws gs flat) where
         (tabulate-same _ _ (to - from) (λ j h. rw (
           part-at from to j hs h,
           part-at from to j ws h,
-          part-at from to j gs h,
+          part-at from to j seams h,
           flat-group j h,
           flat-at j 1 h (omega arith),
           flat-at j 2 h (omega arith),
@@ -75,14 +76,14 @@ module _ {hs ws gs flat : List ℕ} (v : Legalised hs ws gs flat) where
     beside-at : ((i : ℕ) → from ≤ i → i < to → groupAt flat i ≡ groupAt flat from) → (j : ℕ) → j + 1 < to - from → Beside (part from to hs) (part (3 * from) (3 * to) flat) j
     beside-at same j h =
         let z : from + j + 1 ≡ from + (j + 1) = omega arith in
-        let b : Beside hs flat (from + j) = beside-of hs ws gs flat (from + j) (legal-within g (length hs) (v .is-legal .0) (v .is-legal .1) (from + j) (omega arith) (same (from + j + 1) (omega arith) (omega arith) ∙ sym (same (from + j) (omega arith) (omega arith)))) in
+        let b : Beside hs flat (from + j) = beside-of hs ws seams flat (from + j) (legal-within g (length hs) (v .is-legal .0) (v .is-legal .1) (from + j) (omega arith) (same (from + j + 1) (omega arith) (omega arith) ∙ sym (same (from + j) (omega arith) (omega arith)))) in
         record {
           left-first = rw (flat-at j 1 (omega arith) (omega arith), flat-at (j + 1) 1 h (omega arith), ← z) (b .left-first);
           left-clear = rw (flat-at j 1 (omega arith) (omega arith), flat-at (j + 1) 1 h (omega arith), flat-at j 2 (omega arith) (omega arith), flat-at (j + 1) 2 h (omega arith), part-at from to (j + 1) hs h, ← z) (b .left-clear);
           right-clear = rw (flat-at j 1 (omega arith) (omega arith), flat-at (j + 1) 1 h (omega arith), flat-at j 2 (omega arith) (omega arith), flat-at (j + 1) 2 h (omega arith), part-at from to j hs (omega arith), ← z) (b .right-clear);
         }
 
-  pub walk-start : Walked hs ws gs flat 0 0 0 0
+  pub walk-start : Walked hs ws seams flat 0 0 0 0
   walk-start = record {
     inside = omega arith;
     width-left = omega arith;
@@ -92,8 +93,8 @@ module _ {hs ws gs flat : List ℕ} (v : Legalised hs ws gs flat) where
     opens = λ h. eqb-true _ _ (legal-first g (length hs) (v .is-legal .0) (v .is-legal .1) h);
   }
 
-  module _ {width height before from to : ℕ} (w : Walked hs ws gs flat width height before from) (e : GroupEnd flat (length hs) from to) where
-    pub group-in : GroupIn (part from to hs) (part from to ws) (part from to gs) (part (3 * from) (3 * to) flat)
+  module _ {width height before from to : ℕ} (w : Walked hs ws seams flat width height before from) (e : GroupEnd flat (length hs) from to) where
+    pub group-in : GroupIn (part from to hs) (part from to ws) (part from to seams) (part (3 * from) (3 * to) flat)
     group-in =
         let l = long from to (e .some) (e .within) in
         record {
@@ -116,23 +117,23 @@ module _ {hs ws gs flat : List ℕ} (v : Legalised hs ws gs flat) where
                 let h′ : j < to - from = omega (arith, l) in
                 rw (part-at from to j hs h′) (v .stack .tall (from + j) (omega (arith, e .within)));
           };
-          gaps-long = part-length from to gs (omega (arith, e .some)) (omega (arith, v .stack .gaps-long, e .within)) ∙ sym l;
+          seams-long = part-length from to seams (omega (arith, e .some)) (omega (arith, v .stack .seams-long, e .within)) ∙ sym l;
         }
 
-    groups : groupsOf (drop from (placedIn hs ws gs flat)) ≡ mine from to (e .some) (e .within) ∷ groupsOf (drop to (placedIn hs ws gs flat))
+    groups : groupsOf (drop from (placedIn hs ws seams flat)) ≡ mine from to (e .some) (e .within) ∷ groupsOf (drop to (placedIn hs ws seams flat))
     groups =
         cut-tabulate g (length hs) from to (e .within) (e .same) (e .other) (e .some)
-        ∙ ap (λ (m : List Placed). m ∷ groupsOf (drop to (placedIn hs ws gs flat))) (sym (mine-is from to (e .some) (e .within)))
+        ∙ ap (λ (m : List Placed). m ∷ groupsOf (drop to (placedIn hs ws seams flat))) (sym (mine-is from to (e .some) (e .within)))
 
-    last : lastGap (mine from to (e .some) (e .within)) ≡ getD gs (to - 1) 0
+    last : lastGap (mine from to (e .some) (e .within)) ≡ gapAt seams (to - 1)
     last =
         let k : suc (to - from - 1) ≡ to - from = omega (arith, e .some) in
         ap lastGap (mine-is from to (e .some) (e .within))
-        ∙ subst (λ (d : ℕ). lastGap (tabulate (λ j. g (from + j)) d) ≡ getD gs (to - 1) 0) k
-        (gap-tabulate (λ j. g (from + j)) (to - from - 1) ∙ ap (λ (m : ℕ). getD gs m 0) (omega (arith, e .some)))
+        ∙ subst (λ (d : ℕ). lastGap (tabulate (λ j. g (from + j)) d) ≡ gapAt seams (to - 1)) k
+        (gap-tabulate (λ j. g (from + j)) (to - from - 1) ∙ ap (λ (m : ℕ). gapAt seams m) (omega (arith, e .some)))
 
     pub walk-on : {w₁ h₁ height₁ before₁ : ℕ} → w₁ ≡ groupWidth (mine from to (e .some) (e .within)) → h₁ ≡ groupHeight before (mine from to (e .some) (e .within)) → w₁ ≤ mostWidth
-        → height₁ ≡ max height h₁ → before₁ ≡ getD gs (to - 1) 0 → before₁ ≤ 65535 → Walked hs ws gs flat (width + w₁) height₁ before₁ to
+        → height₁ ≡ max height h₁ → before₁ ≡ gapAt seams (to - 1) → before₁ ≤ 65535 → Walked hs ws seams flat (width + w₁) height₁ before₁ to
     unfolding layoutWidth layoutHeight
     walk-on {w₁} {h₁} {height₁} {before₁} a b c d f s =
         let l = long from to (e .some) (e .within) in
@@ -152,8 +153,8 @@ module _ {hs ws gs flat : List ℕ} (v : Legalised hs ws gs flat) where
               (λ same. e .other h (subst (λ (k : ℕ). groupAt flat k ≡ groupAt flat (to - 1)) z same ∙ e .same (to - 1) (omega (arith, e .some)) (omega (arith, e .some))))));
         }
 
-  pub walk-done : {width height before from : ℕ} → Walked hs ws gs flat width height before from → length hs ≤ from
-      → (width ≡ layoutWidth (groupsOf (placedIn hs ws gs flat))) × (height ≡ layoutHeight 0 (groupsOf (placedIn hs ws gs flat)))
+  pub walk-done : {width height before from : ℕ} → Walked hs ws seams flat width height before from → length hs ≤ from
+      → (width ≡ layoutWidth (groupsOf (placedIn hs ws seams flat))) × (height ≡ layoutHeight 0 (groupsOf (placedIn hs ws seams flat)))
   unfolding groupsOf layoutWidth layoutHeight
   walk-done {from = from} w h =
       let a = rw (tabulate-end g (length hs) from h) at (w .width-left) in

@@ -78,21 +78,21 @@ pub record GroupWide (hs ws flat : List ℕ) : Type 0 where
   pub widths-long : length ws ≡ length hs
   pub tall : (i : ℕ) → i < length hs → 0 < getD hs i 0
 
--- And with its gaps.
-pub record GroupIn (hs ws gs flat : List ℕ) : Type 0 where
+-- And with its seams.
+pub record GroupIn (hs ws seams flat : List ℕ) : Type 0 where
   pub wide : GroupWide hs ws flat
-  pub gaps-long : length gs ≡ length hs
+  pub seams-long : length seams ≡ length hs
 
--- The width of a group, whatever its gaps are.
+-- The width of a group, whatever its seams are.
 abbrev pub WidthIs : List ℕ → List ℕ → List ℕ → ℕ → Type 0
-WidthIs hs ws flat width = (gs : List ℕ) → width ≡ groupWidth (placedIn hs ws gs flat)
+WidthIs hs ws flat width = (seams : List ℕ) → width ≡ groupWidth (placedIn hs ws seams flat)
 
 -- The height of a group behind the gap g0, whatever its widths are.
 abbrev pub HeightIs : ℕ → List ℕ → List ℕ → List ℕ → ℕ → Type 0
-HeightIs g0 hs gs flat height = (ws : List ℕ) → height ≡ groupHeight g0 (placedIn hs ws gs flat)
+HeightIs g0 hs seams flat height = (ws : List ℕ) → height ≡ groupHeight g0 (placedIn hs ws seams flat)
 
 -- The width and the height of a group behind the gap g0.
-pub record GroupOutlined (g0 : ℕ) (hs ws gs flat : List ℕ) (o : Outline) : Type 0 where
-  pub width-is : o .width .0 ≡ groupWidth (placedIn hs ws gs flat)
-  pub height-is : o .height .0 ≡ groupHeight g0 (placedIn hs ws gs flat)
+pub record GroupOutlined (g0 : ℕ) (hs ws seams flat : List ℕ) (o : Outline) : Type 0 where
+  pub width-is : o .width .0 ≡ groupWidth (placedIn hs ws seams flat)
+  pub height-is : o .height .0 ≡ groupHeight g0 (placedIn hs ws seams flat)
   pub slim : o .width .0 ≤ mostWidth

@@ -11,6 +11,7 @@ ghost use Rattle.folding.specs.Asks.{placedIn, endAt, outlineIn, Legalised};
 ghost use Rattle.outline.specs.Inner.{shareAt, sumAtStart, mostWidth, StandsAt, GroupEnd, Lefts, GroupFlat, Chains};
 ghost use Rattle.outline.specs.Inner.{NextStart, GroupWide, WidthIs, HeightIs, GroupIn, GroupOutlined};
 use folding::Outline;
+use numbers::gap;
 use numbers::larger;
 use numbers::wide;
 use terms::Rows;
@@ -145,17 +146,17 @@ fn group_width(heights: &[u16], widths: &[u16], flat: &[u32], k: usize) -> Slice
     Slices(width)
 }
 
-fn group_height(heights: &[u16], gaps: &[u16], flat: &[u32], k: usize, before: Rows) -> Rows
-    requires { ⌜ GroupFlat (now heights) (now flat) × (length (now gaps) ≡ length (now heights)) ⌝ }
+fn group_height(heights: &[u16], seams: &[u16], flat: &[u32], k: usize, before: Rows) -> Rows
+    requires { ⌜ GroupFlat (now heights) (now flat) × (length (now seams) ≡ length (now heights)) ⌝ }
     requires { ⌜ Lefts (now flat) (length (now heights)) k × (before .0 ≤ 65535) ⌝ }
-    ensures { λ r. ⌜ HeightIs (before .0) (now (heights .entry)) (now (gaps .entry)) (now (flat .entry)) (r .0) ⌝ }
+    ensures { λ r. ⌜ HeightIs (before .0) (now (heights .entry)) (now (seams .entry)) (now (flat .entry)) (r .0) ⌝ }
 {
     let n = heights.len();
     let t = top(heights, flat).0;
     let g0 = before.0;
-    let g1 = wide(gaps[n - 1]);
+    let g1 = gap(seams, n - 1);
     if k < n {
-        return Rows(t + larger(g0, g1) + wide(gaps[k - 1]));
+        return Rows(t + larger(g0, g1) + gap(seams, k - 1));
     }
     Rows(t + g0 + g1)
 }
@@ -164,28 +165,28 @@ fn group_height(heights: &[u16], gaps: &[u16], flat: &[u32], k: usize, before: R
 fn group_outline(
     heights: &[u16],
     widths: &[u16],
-    gaps: &[u16],
+    seams: &[u16],
     flat: &[u32],
     before: Rows,
 ) -> Outline
-    requires { ⌜ GroupIn (now heights) (now widths) (now gaps) (now flat) × (before .0 ≤ 65535) ⌝ }
+    requires { ⌜ GroupIn (now heights) (now widths) (now seams) (now flat) × (before .0 ≤ 65535) ⌝ }
     ensures { λ r. ⌜ GroupOutlined (before .0)
-        (now (heights .entry)) (now (widths .entry)) (now (gaps .entry)) (now (flat .entry)) r ⌝ }
+        (now (heights .entry)) (now (widths .entry)) (now (seams .entry)) (now (flat .entry)) r ⌝ }
 {
     let k = lefts(flat, heights.len());
     Outline {
         width: group_width(heights, widths, flat, k),
-        height: group_height(heights, gaps, flat, k, before),
+        height: group_height(heights, seams, flat, k, before),
     }
 }
 
 // The outline of a legal folding, group after group; each group is as wide as the sum of a row where a component starts.
-pub fn outline_of(heights: &[u16], widths: &[u16], gaps: &[u16], flat: &[u32]) -> Outline
-    requires { ⌜ Legalised (now heights) (now widths) (now gaps) (now flat) ⌝ }
+pub fn outline_of(heights: &[u16], widths: &[u16], seams: &[u16], flat: &[u32]) -> Outline
+    requires { ⌜ Legalised (now heights) (now widths) (now seams) (now flat) ⌝ }
     ensures { λ r. ⌜ r
-        ≡ outlineIn (placedIn (now (heights .entry)) (now (widths .entry)) (now (gaps .entry)) (now (flat .entry))) ⌝ }
+        ≡ outlineIn (placedIn (now (heights .entry)) (now (widths .entry)) (now (seams .entry)) (now (flat .entry))) ⌝ }
     ensures { λ _. ⌜ AllAtStart (groupsOf
-        (placedIn (now (heights .entry)) (now (widths .entry)) (now (gaps .entry)) (now (flat .entry)))) ⌝ }
+        (placedIn (now (heights .entry)) (now (widths .entry)) (now (seams .entry)) (now (flat .entry)))) ⌝ }
 {
     let n = heights.len();
     let mut width = 0;
@@ -199,13 +200,13 @@ pub fn outline_of(heights: &[u16], widths: &[u16], gaps: &[u16], flat: &[u32]) -
         let group = group_outline(
             &heights[from..to],
             &widths[from..to],
-            &gaps[from..to],
+            &seams[from..to],
             &flat[a..b],
             Rows(before),
         );
         width += group.width.0;
         height = larger(height, group.height.0);
-        before = wide(gaps[to - 1]);
+        before = gap(seams, to - 1);
         from = to;
     }
     Outline {

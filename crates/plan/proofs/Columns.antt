@@ -5,7 +5,7 @@ use mathlib.Core.List.{List, [], _∷_}
 use native.Mathlib.Omega.{arith}
 use lib.ListN.{length, getD, take}
 use Rattle.terms.specs.declared.Component.{Component}
-use Rattle.terms.specs.Component.{componentIn, componentsIn}
+use Rattle.terms.specs.Seams.{componentIn, componentsIn}
 use Rattle.terms.proofs.Tabulate.{tabulate-at}
 use Rattle.model.specs.Groups.{gapBehind}
 use Rattle.group.specs.Rows.{ht, wd, gap, tall}

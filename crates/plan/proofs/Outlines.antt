@@ -21,6 +21,7 @@ module _ (kind : Kind) (limit : ℕ) (hs ws gs work : List ℕ) (a : Plannable k
       record {
         lists = a .lists;
         some = a .some;
+        free = a .free;
         limit-most = most;
         widths-long = omega arith;
         heights-long = omega arith;

@@ -9,7 +9,7 @@ use lib.ListN.{length, getD, take, drop, set, length-drop}
 use lib.Seq.{getD-drop, getD-set-same, getD-set-other}
 use Rattle.terms.specs.declared.Component.{Component}
 use Rattle.terms.specs.declared.Kind.{Kind}
-use Rattle.terms.specs.Component.{componentIn, componentsIn}
+use Rattle.terms.specs.Seams.{componentIn, componentsIn}
 use Rattle.terms.proofs.Parts.{from}
 use Rattle.group.specs.Rows.{gap}
 use Rattle.group.specs.Group.{mayStand}
@@ -108,6 +108,7 @@ module _ {kind : Kind} {limit : ℕ} {hs ws gs widths heights ends es : List ℕ
   asks-again h lw lh le room = record {
     lists = a .lists;
     some = a .some;
+    free = a .free;
     limit-most = omega (arith, a .limit-most);
     widths-long = omega (arith, a .widths-long);
     heights-long = omega (arith, a .heights-long);

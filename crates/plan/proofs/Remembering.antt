@@ -22,6 +22,10 @@ use Rattle.plan.specs.Memory.{widestIn, WordAsks, WordDone, RowHolds, Ro
 pub word-kept : {limit g0 at : ℕ} {hs ws gs es : List ℕ} → WordAsks Nested limit g0 hs ws gs es at → WordDone Nested limit g0 hs ws gs es es at
 word-kept w = record { holds = w .2; others = λ k h n. refl }
 
+pub word-left : (kind : Kind) (limit g0 at : ℕ) (hs ws gs es : List ℕ) → WordAsks kind limit g0 hs ws gs es at → WordDone kind limit g0 hs ws gs es es at
+word-left Apart limit g0 at hs ws gs es w = tt
+word-left Nested limit g0 at hs ws gs es w = word-kept w
+
 -- Rows that nothing is done to, one after another.
 pub kept-none : (es : List ℕ) (row n : ℕ) → RowKept es es row n
 kept-none es row n = record { long = refl; before = λ m h l. refl; beyond = λ m h. refl }

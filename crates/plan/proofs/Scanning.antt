@@ -9,7 +9,7 @@ use lib.ListN.{length, getD, take}
 use lib.Seq.{length-take-le}
 use Rattle.terms.specs.declared.Component.{Component}
 use Rattle.terms.specs.declared.Kind.{Kind}
-use Rattle.terms.specs.Component.{componentIn, componentsIn}
+use Rattle.terms.specs.Seams.{componentIn, componentsIn}
 use Rattle.group.specs.Rows.{gap, tall}
 use Rattle.group.specs.Group.{none, widest}
 use Rattle.terms.proofs.Order.{order}

@@ -5,7 +5,7 @@ use mathlib.Core.List.{List, []}
 use native.Mathlib.Numerals.{add-one}
 use native.Mathlib.Omega.{arith}
 use lib.ListN.{getD, take}
-use Rattle.terms.specs.Component.{componentIn, componentsIn}
+use Rattle.terms.specs.Seams.{componentIn, componentsIn}
 use Rattle.group.specs.Rows.{tall}
 use Rattle.group.specs.Group.{widest}
 use Rattle.layout.proofs.Columns.{components-length}

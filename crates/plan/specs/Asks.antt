@@ -4,15 +4,16 @@ use Prim.Native.Nat.{ℕ, zero, suc, _+_, _*_, _≤_, _<_}
 use mathlib.Core.Path.{_≡_}
 use mathlib.Core.Logic.{_⊎_}
 use mathlib.Core.List.{List}
+use mathlib.Core.Bool.{true}
 use lib.ListN.{length, getD, take, drop}
 use Rattle.numbers.specs.Table.{cells}
 use Rattle.terms.specs.Numbers.{mostSize, mostApart, mostLimit, leastWork}
 use Rattle.terms.specs.declared.Component.{Component}
 use Rattle.terms.specs.declared.Kind.{Kind}
 use Rattle.terms.specs.declared.Kind.the-variants.{Apart, Nested}
-use Rattle.terms.specs.Component.{componentsIn}
+use Rattle.terms.specs.Seams.{gapAt, componentsIn}
 use Rattle.group.specs.Rows.{tall}
-use Rattle.group.specs.Group.{none, widest}
+use Rattle.group.specs.Group.{none, unbarred, widest}
 use Rattle.folding.specs.declared.Outline.{Outline}
 use Rattle.layout.specs.Layout.{Layout, unmet, candidate, choice, scan, layouts, layoutOf}
 use Rattle.layout.specs.Table.{outline}
@@ -52,7 +53,7 @@ abbrev pub planRoom : Kind → ℕ
 planRoom Apart = 0
 planRoom Nested = cells + 2080
 
--- The sizes of the first k components, whatever their gaps.
+-- The sizes of the first k components, whatever their seams.
 pub record SizesAsk (hs ws : List ℕ) (k : ℕ) : Type 0 where
   pub few : length hs ≤ mostApart
   pub low : (i : ℕ) → getD hs i 0 ≤ mostSize
@@ -103,6 +104,7 @@ pub record FromAsks (kind : Kind) (limit i : ℕ) (hs ws gs widths heights : Lis
 pub record PlanAsks (kind : Kind) (limit : ℕ) (hs ws gs widths heights ends es : List ℕ) : Type 0 where
   pub lists : StackLists kind hs ws gs
   pub some : 0 < length hs
+  pub free : unbarred (componentsIn hs ws gs) ≡ true
   pub limit-most : limit ≤ mostLimit
   pub widths-long : length hs < length widths
   pub heights-long : length hs < length heights
@@ -112,7 +114,7 @@ pub record PlanAsks (kind : Kind) (limit : ℕ) (hs ws gs widths heights ends es
 -- The gap before the component with i others before it.
 abbrev pub gapBefore : List ℕ → ℕ → ℕ
 gapBefore gs zero = 0
-gapBefore gs (suc i) = getD gs i 0
+gapBefore gs (suc i) = gapAt gs i
 
 -- The three lists are right from i on.
 pub record PlannedFrom (kind : Kind) (limit : ℕ) (cs : List Component) (widths heights ends : List ℕ) (i : ℕ) : Type 0 where
@@ -126,6 +128,7 @@ pub record KnownTo (kind : Kind) (known limit : ℕ) (cs : List Component) (widt
 pub record Plannable (kind : Kind) (hs ws gs work : List ℕ) : Type 0 where
   pub lists : StackLists kind hs ws gs
   pub some : 0 < length hs
+  pub free : unbarred (componentsIn hs ws gs) ≡ true
   pub room : leastWork ≤ length work
 
 -- The outline of the best layout for the limit.

@@ -8,7 +8,7 @@ use Rattle.numbers.specs.Table.{cells}
 use Rattle.terms.specs.Numbers.{mostApart}
 use Rattle.terms.specs.declared.Kind.{Kind}
 use Rattle.terms.specs.declared.Kind.the-variants.{Apart, Nested}
-use Rattle.terms.specs.Component.{componentsIn}
+use Rattle.terms.specs.Seams.{componentsIn}
 use Rattle.group.specs.Group.{widest}
 use Rattle.group_memory.specs.Memory.{unknown, Holds, Remembered}
 use Rattle.layout.specs.Plan.{Planned}

@@ -6,8 +6,8 @@ ghost use lib.ListN.{length, getD, take, drop};
 ghost use Rattle.numbers.specs.Table.{cells};
 ghost use Rattle.terms.specs.Numbers.{mostApart, mostLimit};
 ghost use Rattle.terms.specs.declared.Kind.the-variants.{Apart, Nested};
-ghost use Rattle.terms.specs.Component.{componentsIn};
-ghost use Rattle.group.specs.Group.{none};
+ghost use Rattle.terms.specs.Seams.{componentsIn};
+ghost use Rattle.group.specs.Group.{none, unbarred};
 ghost use Rattle.layout.specs.Layout.{better, choice, unmet, layouts, layoutOf};
 ghost use Rattle.plan.specs.Asks.{layoutIn, GroupAsks, Packed, tried, mostRows, restAt, FirstAsks, Under, SizesAsk, SizesOf};
 ghost use Rattle.plan.specs.Asks.{FromAsks, PlanAsks, PlanDone, gapBefore, planRoom};
@@ -17,6 +17,8 @@ use folding::Outline;
 use group::NONE;
 use group_memory::NOTHING;
 use numbers::CELLS;
+use numbers::barred;
+use numbers::gap;
 use numbers::larger;
 use numbers::lesser;
 use numbers::wide;
@@ -54,13 +56,13 @@ fn count(n: usize) -> u32
 fn is_better(a: Best, b: Best) -> bool
     ensures { λ r. ⌜ r ≡ better (layoutIn a) (layoutIn b) ⌝ }
 {
+    if b.width.0 < a.width.0 {
+        return false;
+    }
     if a.width.0 < b.width.0 {
         return true;
     }
-    if a.width.0 == b.width.0 {
-        return a.height.0 < b.height.0;
-    }
-    false
+    a.height.0 < b.height.0
 }
 
 // The better of two; of equal ones the second, which was found first.
@@ -85,7 +87,8 @@ fn most_rows(kind: Kind, limit: Rows) -> Rows
     }
 }
 
-// A group without a fold in front of the rest.
+// A group without a fold in front of the rest. Where the rest does not keep the limit its width is NONE, and the two are wider
+// than every layout.
 fn try_flat(
     limit: Rows,
     g0: Rows,
@@ -99,16 +102,14 @@ fn try_flat(
 ) -> Best
     requires { ⌜ GroupAsks Apart (limit .0) (g0 .0) (widest .0) (now h) (now w) (now g) best rest ⌝ }
     requires { ⌜ Packed (tall .0) (now h) (now w) (now g) ⌝ }
+    requires { ⌜ unbarred (componentsIn (now h) (now w) (now g)) ≡ true ⌝ }
     ensures { λ r. ⌜ layoutIn r
         ≡ tried Apart (limit .0) (g0 .0) (length (now (h .entry)))
         (now (h .entry)) (now (w .entry)) (now (g .entry)) best rest ⌝ }
 {
     let k = h.len();
-    let height = tall.0 + g0.0 + wide(g[k - 1]);
+    let height = tall.0 + g0.0 + gap(g, k - 1);
     if limit.0 < height {
-        return best;
-    }
-    if NONE <= rest.width.0 {
         return best;
     }
     pick(
@@ -126,6 +127,7 @@ fn try_flat(
 fn too_wide(best: Best, rest: Best) -> Slices
     requires { ⌜ best .width .0 ≤ none ⌝ }
     ensures { λ r. ⌜ (best .width .0 ≤ r .0) × (r .0 ≤ best .width .0 → best .height .0 ≤ rest .height .0) ⌝ }
+    ensures { λ r. ⌜ r .0 ≤ best .width .0 + 1 ⌝ }
 {
     if rest.height.0 < best.height.0 {
         return Slices(best.width.0 + 1);
@@ -134,7 +136,7 @@ fn too_wide(best: Best, rest: Best) -> Slices
 }
 
 // A group with the fold that makes it narrowest in front of the rest. A group that is too wide to improve the best layout
-// need not be searched. The group's word stands at `at`.
+// need not be searched; in front of a rest of NONE every group is. The group's word stands at `at`.
 fn try_folds(
     limit: Rows,
     g0: Rows,
@@ -151,22 +153,20 @@ fn try_folds(
     requires { ⌜ GroupAsks Nested (limit .0) (g0 .0) (widest .0) (now h) (now w) (now g) best rest ⌝ }
     requires { ⌜ Packed (tall .0) (now h) (now w) (now g) ⌝ }
     requires { ⌜ WordAsks Nested (limit .0) (g0 .0) (now h) (now w) (now g) (now work) at ⌝ }
+    requires { ⌜ unbarred (componentsIn (now h) (now w) (now g)) ≡ true ⌝ }
     ensures { λ r. ⌜ layoutIn r
         ≡ tried Nested (limit .0) (g0 .0) (length (now (h .entry)))
         (now (h .entry)) (now (w .entry)) (now (g .entry)) best rest ⌝ }
     ensures { λ r. ⌜ WordDone Nested (limit .0) (g0 .0) (now (h .entry)) (now (w .entry)) (now (g .entry))
         (now (work .entry)) (now (work .exit)) at ⌝ }
 {
-    if NONE <= rest.width.0 {
-        return best;
-    }
     let bound = too_wide(best, rest);
     if bound.0 <= rest.width.0 + widest.0 {
         return best;
     }
     let cap = Slices(lesser(2 * widest.0, bound.0 - 1 - rest.width.0));
     let k = h.len();
-    let flat = Rows(tall.0 + g0.0 + wide(g[k - 1]));
+    let flat = Rows(tall.0 + g0.0 + gap(g, k - 1));
     let n = group_memory::narrowest(g0, flat, h, w, g, work, at, limit, widest, cap);
     if NONE <= n.width.0 {
         return best;
@@ -181,6 +181,7 @@ fn try_folds(
     )
 }
 
+// No group ends behind a barred component.
 fn try_group(
     kind: Kind,
     limit: Rows,
@@ -204,6 +205,10 @@ fn try_group(
     ensures { λ r. ⌜ WordDone kind (limit .0) (g0 .0) (now (h .entry)) (now (w .entry)) (now (g .entry))
         (now (work .entry)) (now (work .exit)) at ⌝ }
 {
+    let k = h.len();
+    if barred(g, k - 1) {
+        return best;
+    }
     match kind {
         Kind::Apart => try_flat(limit, g0, tall, widest, h, w, g, best, rest),
         Kind::Nested => try_folds(limit, g0, tall, widest, h, w, g, best, rest, at, work),
@@ -312,8 +317,11 @@ fn bound_by(
     if h.len() < k {
         return Slices(NONE);
     }
-    let s = sizes_of(h, w, k);
     let last = k - 1;
+    if barred(g, last) {
+        return Slices(NONE);
+    }
+    let s = sizes_of(h, w, k);
     let rest = rest_at(widths, heights, last);
     let none = Best {
         width: Slices(NONE),
@@ -461,7 +469,7 @@ fn gap_before(g: &[u16], i: usize) -> Rows
     if i == 0 {
         return Rows(0);
     }
-    Rows(wide(g[i - 1]))
+    Rows(gap(g, i - 1))
 }
 
 // The best layout of what is left of a stack behind its first i components, where the lists hold the later ones; `next_end` is

@@ -22,6 +22,7 @@ some-number Refusal.BadLimit = refl
 some-number Refusal.ShortBuffer = refl
 some-number Refusal.Unmeetable = refl
 some-number Refusal.BrokenFolding = refl
+some-number Refusal.BadMark = refl
 
 pub outline-said : (a : Measured) → outlineOfCode (outlineCode (measuredAnswer a)) ≡ measuredAnswer a
 outline-said (Measured.Outlined o) = refl

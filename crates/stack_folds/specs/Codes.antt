@@ -1,4 +1,4 @@
--- Answers in numbers, as C and Rust receive them. A refusal is its number, 1 to 10; a result has the refusal 0. So the two
+-- Answers in numbers, as C and Rust receive them. A refusal is its number, 1 to 11; a result has the refusal 0. So the two
 -- cannot be confused.
 use Prim.Native.Nat.{ℕ, _+_, _-_, _*_}
 use mathlib.Core.Path.{_≡_}
@@ -10,6 +10,7 @@ use Rattle.terms.specs.declared.Component.{Component}
 use Rattle.terms.specs.declared.Kind.{Kind}
 use Rattle.terms.specs.declared.Kind.the-variants.{Apart, Nested}
 use Rattle.terms.specs.Answer.{Answer, refusal, result}
+use Rattle.stack.specs.File.{versionOf, bytesEach}
 use Rattle.folding.specs.declared.Outline.{Outline}
 use Rattle.folding.specs.declared.Winner.{Winner}
 use Rattle.folding.specs.declared.Winner.the-variants.{First, Second, Neither}
@@ -46,12 +47,12 @@ PlainCount c = c ≡ countCode (countOfCode c)
 abbrev pub PlainOutline : Extent → Type 0
 PlainOutline e = e ≡ outlineCode (outlineOfCode e)
 
--- The six bytes of one component of a stack file, as a start and a length; the empty part starts at 0.
-abbrev pub partCode : Answer (List Component) → ℕ → Part
-partCode (refusal k) number = record { start = 0; length = 0 }
-partCode (result cs) number =
+-- The bytes of one component of a stack file, as a start and a length; the empty part starts at 0.
+abbrev pub partCode : Answer (List Component) → List ℕ → ℕ → Part
+partCode (refusal k) file number = record { start = 0; length = 0 }
+partCode (result cs) file number =
     cond (leb 1 number && leb number (length cs))
-    (record { start = 7 + 6 * (number - 1); length = 6 })
+    (record { start = 7 + bytesEach (versionOf file) * (number - 1); length = bytesEach (versionOf file) })
     (record { start = 0; length = 0 })
 
 -- Choose: 1 for the first, 2 for the second, 0 where measuring would refuse either.

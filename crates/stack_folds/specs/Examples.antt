@@ -1,10 +1,13 @@
 -- The numbers that the header gives, by computation.
+use Prim.Native.Nat.{ℕ}
 use mathlib.Core.Path.{_≡_, refl}
-use mathlib.Core.List.{[], _∷_}
+use mathlib.Core.List.{List, [], _∷_}
 use mathlib.Core.Bool.{true, false}
 use Rattle.terms.specs.declared.Component.{Component}
 use Rattle.terms.specs.declared.Kind.the-variants.{Apart, Nested}
 use Rattle.terms.specs.Answer.{refusal, result}
+use Rattle.terms.specs.Component.{every, stackOf, tabulate, countOf}
+use Rattle.stack.specs.File.{headerOf, checkOf}
 use Rattle.folding.specs.declared.Winner.the-variants.{First, Second, Neither}
 use Rattle.stack_folds.specs.Codes.{kindOf, countCode, outlineCode, partCode, choiceCode, chosenPart}
 
@@ -30,7 +33,7 @@ choices : (choiceCode First ≡ 1) × (choiceCode Second ≡ 2) × (choiceCode N
 choices = (refl, refl, refl)
 
 unit : Component
-unit = record { height = record { 0 = 1 }; width = record { 0 = 1 }; gap = record { 0 = 0 } }
+unit = record { height = record { 0 = 1 }; width = record { 0 = 1 }; gap = record { 0 = 0 }; mark = 0 }
 
 chosen-second : chosenPart (result (unit ∷ [])) 2 (0 ∷ 0 ∷ 5 ∷ []) (0 ∷ 0 ∷ 0 ∷ 9 ∷ []) ≡ 0 ∷ 0 ∷ 0 ∷ []
 chosen-second = refl
@@ -38,9 +41,30 @@ chosen-second = refl
 chosen-none : chosenPart (result (unit ∷ [])) 0 (0 ∷ 0 ∷ 5 ∷ []) (0 ∷ 0 ∷ 0 ∷ []) ≡ []
 chosen-none = refl
 
--- the second component of two stands behind 13 bytes; there is no third
-looked-up : partCode (result (unit ∷ unit ∷ [])) 2 ≡ record { start = 13; length = 6 }
+-- STK, version 1, two components: the second stands behind 13 bytes, and there is no third
+file-1 : List ℕ
+file-1 = 83 ∷ 84 ∷ 75 ∷ 1 ∷ 0 ∷ 2 ∷ 0 ∷ 5 ∷ 0 ∷ 6 ∷ 0 ∷ 0 ∷ 0 ∷ 7 ∷ 0 ∷ 1 ∷ 0 ∷ 0 ∷ 0 ∷ []
+
+looked-up : partCode (checkOf Apart file-1) file-1 2 ≡ record { start = 13; length = 6 }
+unfolding file-1 headerOf stackOf every tabulate
 looked-up = refl
 
-no-third : partCode (result (unit ∷ unit ∷ [])) 3 ≡ record { start = 0; length = 0 }
+no-third : partCode (checkOf Apart file-1) file-1 3 ≡ record { start = 0; length = 0 }
+unfolding file-1 headerOf stackOf every tabulate
 no-third = refl
+
+-- the same in version 2, a fold barred between them: eight bytes behind 15; with a last mark of 1 it is refused
+file-2 : ℕ → List ℕ
+file-2 m = 83 ∷ 84 ∷ 75 ∷ 2 ∷ 0 ∷ 2 ∷ 0 ∷ 5 ∷ 0 ∷ 6 ∷ 0 ∷ 0 ∷ 0 ∷ 1 ∷ 0 ∷ 7 ∷ 0 ∷ 1 ∷ 0 ∷ 0 ∷ 0 ∷ m ∷ 0 ∷ []
+
+looked-up-2 : partCode (checkOf Apart (file-2 0)) (file-2 0) 2 ≡ record { start = 15; length = 8 }
+unfolding file-2 headerOf stackOf every tabulate
+looked-up-2 = refl
+
+barred-last : countCode (countOf (checkOf Nested (file-2 1))) ≡ record { refusal = 11; count = 0 }
+unfolding file-2 headerOf stackOf every tabulate
+barred-last = refl
+
+none-refused : partCode (checkOf Apart (file-2 1)) (file-2 1) 1 ≡ record { start = 0; length = 0 }
+unfolding file-2 headerOf stackOf every tabulate
+none-refused = refl

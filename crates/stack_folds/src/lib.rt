@@ -96,43 +96,32 @@ pub extern "C" fn folds_read(
     heights: &mut [u16],
     widths: &mut [u16],
     gaps: &mut [u16],
+    marks: &mut [u16],
 ) -> Count
-    ensures { λ r. ⌜ Read Apart (now (file .entry))
-        (now (heights .entry)) (now (widths .entry)) (now (gaps .entry)) (countOfCode r)
-        (now (heights .exit)) (now (widths .exit)) (now (gaps .exit)) ⌝ }
+    ensures { λ r. ⌜ Read (now (file .entry))
+        (now (heights .entry)) (now (widths .entry)) (now (gaps .entry)) (now (marks .entry)) (countOfCode r)
+        (now (heights .exit)) (now (widths .exit)) (now (gaps .exit)) (now (marks .exit)) ⌝ }
     ensures { λ r. ⌜ PlainCount r ⌝ }
 {
-    counted(stack::read(file, heights, widths, gaps))
+    counted(stack::read(file, heights, widths, gaps, marks))
 }
 
+// What `stack::lookup` shows is as long as a component, or empty.
 #[no_mangle]
 pub extern "C" fn folds_lookup(file: &[u8], number: usize) -> Part
-    ensures { λ r. ⌜ r ≡ partCode (checkOf Apart (now (file .entry))) number ⌝ }
+    ensures { λ r. ⌜ r ≡ partCode (checkOf Apart (now (file .entry))) (now (file .entry)) number ⌝ }
     ensures { λ r. ⌜ take (r .length) (drop (r .start) (now (file .entry))) ≡ lookupOf (now (file .entry)) number ⌝ }
 {
-    match stack::check(file, Kind::Apart) {
-        Counted::Refused(_) => Part {
+    let each = stack::lookup(file, number).len();
+    if each == 0 {
+        return Part {
             start: 0,
             length: 0,
-        },
-        Counted::Count(n) => {
-            if number < 1 {
-                return Part {
-                    start: 0,
-                    length: 0,
-                };
-            }
-            if n < number {
-                return Part {
-                    start: 0,
-                    length: 0,
-                };
-            }
-            Part {
-                start: 7 + 6 * (number - 1),
-                length: 6,
-            }
-        }
+        };
+    }
+    Part {
+        start: 7 + each * (number - 1),
+        length: each,
     }
 }
 
@@ -141,13 +130,14 @@ pub extern "C" fn folds_write(
     heights: &[u16],
     widths: &[u16],
     gaps: &[u16],
+    marks: &[u16],
     file: &mut [u8],
 ) -> Count
-    ensures { λ r. ⌜ Wrote (now (heights .entry)) (now (widths .entry)) (now (gaps .entry))
+    ensures { λ r. ⌜ Wrote (now (heights .entry)) (now (widths .entry)) (now (gaps .entry)) (now (marks .entry))
         (now (file .entry)) (countOfCode r) (now (file .exit)) ⌝ }
     ensures { λ r. ⌜ PlainCount r ⌝ }
 {
-    counted(stack_write::write(heights, widths, gaps, file))
+    counted(stack_write::write(heights, widths, gaps, marks, file))
 }
 
 #[no_mangle]

@@ -1,4 +1,4 @@
--- The bytes of a stack file (document 01, "Components and stack files").
+-- The bytes of a stack file of version 2 (document 01, "Components and stack files"; ticket 3).
 use Prim.Native.Nat.{ℕ, _/_, _%_}
 use mathlib.Core.List.{List, [], _∷_}
 use lib.ListN.{length}
@@ -14,12 +14,12 @@ high x = x / 256 % 256
 unfoldable pub bytesOf : List Component → List ℕ
 bytesOf [] = []
 bytesOf (c ∷ cs) =
-    low (c .height .0) ∷ high (c .height .0) ∷ low (c .width .0) ∷ high (c .width .0) ∷ low (c .gap .0) ∷ high (c .gap .0) ∷ bytesOf cs
+    low (c .height .0) ∷ high (c .height .0) ∷ low (c .width .0) ∷ high (c .width .0) ∷ low (c .gap .0) ∷ high (c .gap .0)
+    ∷ low (c .mark) ∷ high (c .mark) ∷ bytesOf cs
 
--- "A stack file is: the letters STK (3 bytes), a version (16 bits, 1), the count n (16 bits), then six bytes for each
--- component".
+-- "A stack file is: the letters STK (3 bytes), a version (16 bits ..), the count n (16 bits)", then "eight bytes a component".
 abbrev pub headed : ℕ → List ℕ → List ℕ
-headed n body = 83 ∷ 84 ∷ 75 ∷ 1 ∷ 0 ∷ low n ∷ high n ∷ body
+headed n body = 83 ∷ 84 ∷ 75 ∷ 2 ∷ 0 ∷ low n ∷ high n ∷ body
 
 abbrev pub fileOf : List Component → List ℕ
 fileOf cs = headed (length cs) (bytesOf cs)

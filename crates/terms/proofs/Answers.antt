@@ -11,7 +11,7 @@ use borrow.Author.Tests.{ltb-false, eqb-false, not-false}
 use Rattle.terms.specs.declared.Component.{Component}
 use Rattle.terms.specs.declared.Kind.{Kind}
 use Rattle.terms.specs.Answer.{Answer, refusal, result, refuseIf, andThen}
-use Rattle.terms.specs.Component.{goodSize, goodGap, every, mostOf, stackOf, countOf}
+use Rattle.terms.specs.Component.{goodSize, goodGap, goodMark, every, mostOf, stackOf, countOf}
 
 module _ {A : Type 0} where
   -- a result came past this check
@@ -31,6 +31,7 @@ pub record Stack (most : ℕ) (cs : List Component) : Type 0 where
   pub few : length cs ≤ most
   pub sizes : every goodSize cs ≡ true
   pub gaps : every goodGap cs ≡ true
+  pub marks : every goodMark cs ≡ true
 
 pub stack-is : (most : ℕ) (cs ds : List Component) → stackOf most cs ≡ result ds → (cs ≡ ds) × Stack most ds
 unfolding stackOf
@@ -38,10 +39,11 @@ stack-is most cs ds e =
     let e1 = passed (eqb (length cs) 0) 4 _ ds e in
     let e2 = passed (ltb most (length cs)) 4 _ ds (e1 .1) in
     let e3 = passed (not (every goodSize cs)) 5 _ ds (e2 .1) in
-    let e4 = passed (not (every goodGap cs)) 6 (result cs) ds (e3 .1) in
-    let m : cs ≡ ds = result-same (e4 .1) in
+    let e4 = passed (not (every goodGap cs)) 6 _ ds (e3 .1) in
+    let e5 = passed (not (every goodMark cs)) 11 (result cs) ds (e4 .1) in
+    let m : cs ≡ ds = result-same (e5 .1) in
     let n : length cs ≢ 0 = eqb-false _ _ (e1 .0) in
-    let s : Stack most cs = record { some = omega arith; few = ltb-false _ _ (e2 .0); sizes = not-false _ (e3 .0); gaps = not-false _ (e4 .0) } in
+    let s : Stack most cs = record { some = omega arith; few = ltb-false _ _ (e2 .0); sizes = not-false _ (e3 .0); gaps = not-false _ (e4 .0); marks = not-false _ (e5 .0) } in
     (m, rw m at s)
 
 pub most-256 : (kind : Kind) → mostOf kind ≤ 256

@@ -1,15 +1,16 @@
 -- A stack in three lists: its columns, and the components that they make.
-use Prim.Native.Nat.{ℕ, zero, suc, _<_, _≤_}
+use Prim.Native.Nat.{ℕ, zero, suc, _/_, _%_, _<_, _≤_}
 use mathlib.Core.Path.{_≡_, refl, ap, _∙_}
 use mathlib.Core.List.{List, [], _∷_, map}
-use mathlib.Core.Bool.{Bool, true}
+use mathlib.Core.Bool.{Bool, true, false}
 use native.Mathlib.Omega.{arith}
 use lib.ListN.{length, getD, List·getD-map}
 use lib.Seq.{ext-getD}
-use lib.Dec.{leb}
-use borrow.Author.Tests.{leb-true}
+use lib.Dec.{leb, eqb}
+use borrow.Author.Tests.{leb-true, eqb-true}
 use Rattle.terms.specs.declared.Component.{Component}
-use Rattle.terms.specs.Component.{inSize, goodSize, ends, every, tabulate, componentIn, componentsIn}
+use Rattle.terms.specs.Component.{inSize, goodSize, goodMark, ends, every, tabulate}
+use Rattle.terms.specs.Seams.{seamOf, componentIn, componentsIn}
 use Rattle.terms.proofs.Bools.{both}
 use Rattle.terms.proofs.Tabulate.{tabulate-length, tabulate-at}
 
@@ -19,25 +20,57 @@ heightsOf cs = map (λ c. c .height .0) cs
 abbrev pub widthsOf : List Component → List ℕ
 widthsOf cs = map (λ c. c .width .0) cs
 
-abbrev pub gapsOf : List Component → List ℕ
-gapsOf cs = map (λ c. c .gap .0) cs
+abbrev pub seamsOf : List Component → List ℕ
+seamsOf cs = map seamOf cs
+
+-- Each mark is 0 or 1, so that a seam holds gap and mark.
+abbrev pub AllMarked : List Component → Type 0
+AllMarked [] = Unit {0}
+AllMarked (c ∷ cs) = (c .mark ≤ 1) × AllMarked cs
+
+mark-low : (c : Component) (last : Bool) → goodMark c last ≡ true → c .mark ≤ 1
+mark-low c true e = omega (arith, eqb-true (c .mark) 0 e)
+mark-low c false e = leb-true (c .mark) 1 e
+
+pub all-marked : (cs : List Component) → every goodMark cs ≡ true → AllMarked cs
+unfolding every
+all-marked [] e = tt
+all-marked (c ∷ cs) e = let b = both (goodMark c (ends cs)) (every goodMark cs) e in (mark-low c (ends cs) (b .0), all-marked cs (b .1))
 
 pub length-map : (f : Component → ℕ) (cs : List Component) → length (map f cs) ≡ length cs
 length-map f [] = refl
 length-map f (c ∷ cs) = ap suc (length-map f cs)
 
 none : Component
-none = record { height = record { 0 = 0 }; width = record { 0 = 0 }; gap = record { 0 = 0 } }
+none = record { height = record { 0 = 0 }; width = record { 0 = 0 }; gap = record { 0 = 0 }; mark = 0 }
 
-pub columns : (cs : List Component) → componentsIn (heightsOf cs) (widthsOf cs) (gapsOf cs) ≡ cs
+marked-at : (cs : List Component) → AllMarked cs → (i : ℕ) → getD cs i none .mark ≤ 1
 unfolding none
-columns cs =
-    let g : ℕ → Component = componentIn (heightsOf cs) (widthsOf cs) (gapsOf cs) in
+marked-at [] a i = omega arith
+marked-at (c ∷ cs) a zero = a .0
+marked-at (c ∷ cs) a (suc i) = marked-at cs (a .1) i
+
+pub seam-gap : (c : Component) → c .mark ≤ 1 → seamOf c / 2 ≡ c .gap .0
+seam-gap c h = omega arith
+
+pub seam-mark : (c : Component) → c .mark ≤ 1 → seamOf c % 2 ≡ c .mark
+seam-mark c h = omega arith
+
+pub columns : (cs : List Component) → AllMarked cs → componentsIn (heightsOf cs) (widthsOf cs) (seamsOf cs) ≡ cs
+unfolding none
+columns cs a =
+    let g : ℕ → Component = componentIn (heightsOf cs) (widthsOf cs) (seamsOf cs) in
     let n : length (heightsOf cs) ≡ length cs = length-map (λ c. c .height .0) cs in
     ext-getD none (tabulate g (length (heightsOf cs))) cs (tabulate-length g (length (heightsOf cs)) ∙ n)
     (λ i h.
     tabulate-at g (length (heightsOf cs)) i none (omega (arith, tabulate-length g (length (heightsOf cs))))
-    ∙ rw (List·getD-map (λ c. c .height .0) cs i none, List·getD-map (λ c. c .width .0) cs i none, List·getD-map (λ c. c .gap .0) cs i none))
+    ∙ rw (
+      List·getD-map (λ c. c .height .0) cs i none,
+      List·getD-map (λ c. c .width .0) cs i none,
+      List·getD-map seamOf cs i none,
+      seam-gap (getD cs i none) (marked-at cs a i),
+      seam-mark (getD cs i none) (marked-at cs a i),
+    ))
 
 -- Heights and widths of a stack are 1 to 4,000.
 pub record Sized (c : Component) : Type 0 where

@@ -4,7 +4,7 @@ use mathlib.Core.Bool.{Bool, true, false}
 use Rattle.terms.specs.declared.Refusal.{Refusal}
 use Rattle.terms.specs.declared.Counted.{Counted}
 
--- "The answer .. is a result or one of the ten refusals": a refusal is its number, a result its values.
+-- "The answer .. is a result or one of the .. refusals": a refusal is its number, a result its values.
 pub data Answer (A : Type 0) : Type 0 where
   refusal : ℕ → Answer A
   result : A → Answer A
@@ -31,6 +31,7 @@ numberOf Refusal.BadLimit = 7
 numberOf Refusal.ShortBuffer = 8
 numberOf Refusal.Unmeetable = 9
 numberOf Refusal.BrokenFolding = 10
+numberOf Refusal.BadMark = 11
 
 -- The answer of a call that counts: the number of components, of the file's bytes or of pairs.
 abbrev pub countAnswer : Counted → Answer ℕ

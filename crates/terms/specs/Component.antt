@@ -1,8 +1,8 @@
--- Components, and which lists of them are a stack (document 01, "Components and stack files").
+-- Components, and which lists of them are a stack (document 01, "Components and stack files"; ticket 3).
 use Prim.Native.Nat.{ℕ, zero, suc, _+_, _*_, max}
 use mathlib.Core.List.{List, [], _∷_, _++_}
 use mathlib.Core.Bool.{Bool, true, false, not, _&&_}
-use lib.ListN.{length, getD}
+use lib.ListN.{length}
 use lib.Dec.{leb, ltb, eqb}
 use Rattle.terms.specs.declared.Component.{Component}
 use Rattle.terms.specs.declared.Rule.{Rule}
@@ -24,10 +24,20 @@ abbrev pub goodGap : Component → Bool → Bool
 goodGap c true = eqb (c .gap .0) 0
 goodGap c false = leb (c .gap .0) mostSize
 
--- The two, by their names in the code.
+-- Ticket 3: "a 16-bit fold mark, 0 for a fold allowed after it, 1 for barred".
+abbrev pub barred : Component → Bool
+barred c = eqb (c .mark) 1
+
+-- Refusal 11, "a mark over 1 or a last mark of 1", does not apply to the component.
+abbrev pub goodMark : Component → Bool → Bool
+goodMark c true = eqb (c .mark) 0
+goodMark c false = leb (c .mark) 1
+
+-- The three, by their names in the code.
 abbrev pub ruleOf : Rule → Component → Bool → Bool
 ruleOf Rule.Size = goodSize
 ruleOf Rule.Gap = goodGap
+ruleOf Rule.Mark = goodMark
 
 -- Nothing follows: the component before is the last.
 abbrev pub ends : List Component → Bool
@@ -44,27 +54,20 @@ abbrev pub mostOf : Kind → ℕ
 mostOf Apart = mostApart
 mostOf Nested = mostNested
 
--- Refusals 4 to 6 of a list of components, in order; all heights and widths before any gap.
+-- Refusals 4 to 6 and 11 of a list of components, in order: all heights and widths before any gap, all gaps before any mark.
 unfoldable pub stackOf : ℕ → List Component → Answer (List Component)
 stackOf most cs =
     refuseIf (eqb (length cs) 0) 4
     (refuseIf (ltb most (length cs)) 4
     (refuseIf (not (every goodSize cs)) 5
     (refuseIf (not (every goodGap cs)) 6
-    (result cs))))
+    (refuseIf (not (every goodMark cs)) 11
+    (result cs)))))
 
 -- g 0, g 1, .., g (n - 1)
 unfoldable pub tabulate : {A : Type 0} → (ℕ → A) → ℕ → List A
 tabulate g zero = []
 tabulate g (suc n) = tabulate g n ++ (g n ∷ [])
-
--- The components that three lists hold: their entries at the same place.
-abbrev pub componentIn : List ℕ → List ℕ → List ℕ → ℕ → Component
-componentIn heights widths gaps i =
-    record { height = record { 0 = getD heights i 0 }; width = record { 0 = getD widths i 0 }; gap = record { 0 = getD gaps i 0 } }
-
-abbrev pub componentsIn : List ℕ → List ℕ → List ℕ → List Component
-componentsIn heights widths gaps = tabulate (componentIn heights widths gaps) (length heights)
 
 -- The check and the reading of a stack give the number of its components.
 abbrev pub countOf : Answer (List Component) → Answer ℕ

@@ -2,7 +2,7 @@
 ghost use mathlib.Core.Path.{_≡_};
 ghost use mathlib.Core.Bool.{true};
 ghost use Rattle.terms.specs.Answer.{numberOf};
-ghost use Rattle.terms.specs.Component.{inSize, mostOf, goodSize, goodGap, ruleOf};
+ghost use Rattle.terms.specs.Component.{inSize, mostOf, goodSize, goodGap, goodMark, ruleOf};
 ghost use Rattle.terms.specs.Position.{nextOf};
 
 // The most that a height, a width or a gap may be.
@@ -29,6 +29,8 @@ pub struct Component {
     pub height: Rows,
     pub width: Slices,
     pub gap: Rows,
+    // 0 for a fold allowed after the component, 1 for barred.
+    pub mark: u32,
 }
 
 // Whether a call folds nested. It takes fewer components then.
@@ -49,6 +51,7 @@ pub enum Refusal {
     ShortBuffer,
     Unmeetable,
     BrokenFolding,
+    BadMark,
 }
 
 // What a call answers that counts components, bytes or pairs.
@@ -77,6 +80,7 @@ impl Refusal {
             Refusal::ShortBuffer => 8,
             Refusal::Unmeetable => 9,
             Refusal::BrokenFolding => 10,
+            Refusal::BadMark => 11,
         }
     }
 }
@@ -119,10 +123,11 @@ fn in_size(x: u32) -> bool
     false
 }
 
-// What refusals 5 and 6 ask of each component.
+// What refusals 5, 6 and 11 ask of each component.
 pub enum Rule {
     Size,
     Gap,
+    Mark,
 }
 
 fn size_stands(c: Component) -> bool
@@ -143,11 +148,21 @@ fn gap_stands(c: Component, last: bool) -> bool
     c.gap.0 <= MOST_SIZE
 }
 
+fn mark_stands(c: Component, last: bool) -> bool
+    ensures { λ r. ⌜ r ≡ goodMark c last ⌝ }
+{
+    if last {
+        return c.mark == 0;
+    }
+    c.mark <= 1
+}
+
 pub fn stands(rule: Rule, c: Component, last: bool) -> bool
     ensures { λ r. ⌜ r ≡ ruleOf rule c last ⌝ }
 {
     match rule {
         Rule::Size => size_stands(c),
         Rule::Gap => gap_stands(c, last),
+        Rule::Mark => mark_stands(c, last),
     }
 }

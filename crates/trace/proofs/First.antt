@@ -2,6 +2,7 @@
 use Prim.Native.Nat.{ℕ, _+_, _-_, _*_, _≤_, _<_}
 use mathlib.Core.Path.{_≡_, refl, sym, ap, _∙_}
 use mathlib.Core.List.{List, _++_}
+use mathlib.Core.Bool.{true}
 use native.Mathlib.Omega.{arith}
 use lib.ListN.{length, getD, take, drop, length-drop, take-append-drop}
 use lib.Seq.{length-take-le, getD-drop, getD-append-add}
@@ -10,21 +11,22 @@ use Rattle.terms.specs.declared.Kind.{Kind}
 use Rattle.terms.proofs.Tabulate.{tabulate-same}
 use Rattle.terms.proofs.Lists.{AllSized}
 use Rattle.folding.specs.declared.Placement.{Placement}
-use Rattle.folding.specs.Placement.{placementAt, placementsOf}
+use Rattle.folding.specs.Placement.{placedOf, placementAt, placementsOf}
 use Rattle.model.specs.Layout.{candidateFor}
 use Rattle.model.proofs.Scan.{layouts-drop, layouts-at}
 use Rattle.model.proofs.First.{restFor, FirstGroup, first-group}
 use Rattle.group.specs.Rows.{gap}
-use Rattle.group.specs.Group.{none, gapAfter, mayStand, leastHeight, leastWidth, FoldPoint, groupPlaces}
+use Rattle.group.specs.Group.{none, unbarred, gapAfter, mayStand, leastHeight, leastWidth, FoldPoint, groupPlaces}
 use Rattle.folding.specs.Placement.{flatOf}
 use Rattle.folding.proofs.Flat.{flat-length}
 use Rattle.group_trace.proofs.Flat.{placements-flat}
 use Rattle.layout.specs.Layout.{Layout, unmet, groups, layouts, layoutOf}
 use Rattle.layout.specs.Plan.{PlannedAt, Planned}
-use Rattle.group.proofs.Ways.{suits}
-use Rattle.group.proofs.Exact.{least-reached}
+use Rattle.group.proofs.Ways.{suits, met-end}
+use Rattle.group.proofs.Lower.{leftsIn}
+use Rattle.group.proofs.Exact.{least-reached, stands-so}
 use Rattle.layout.proofs.Groups.{sized-parts}
-use Rattle.layout.proofs.Folds.{Folds, folds-join}
+use Rattle.layout.proofs.Folds.{Folds, folds-front}
 use Rattle.trace.specs.Trace.{Met}
 use Rattle.group.proofs.Indices.{take-tabulate}
 use Rattle.layout.proofs.Columns.{tabulate-rest}
@@ -69,6 +71,9 @@ module _ (kind : Kind) (limit g0 : ℕ) (cs : List Component) (widths heights en
     group-met : leastWidth kind g0 (take k cs) limit < none
     group-met = rw k-is at (first .group-met)
 
+    pub group-free : unbarred (take k cs) ≡ true
+    group-free = met-end kind (take k cs) g0 limit group-met
+
     rest-width : getD widths k 0 ≡ restFor (groups kind) limit cs k .width
     rest-width = m .planned .at k k-within .width-is ∙ ap (λ (l : Layout). l .width) (layouts-at (λ x. gap x) (candidateFor (groups kind) limit) g0 cs k k-some k-within)
 
@@ -89,8 +94,12 @@ module _ (kind : Kind) (limit g0 : ℕ) (cs : List Component) (widths heights en
         → Folds kind group g0 cs (groupPlaces (getD widths 0 0 - getD widths k 0) (take k cs) group p ++ qs) (layoutOf kind limit g0 cs .width) (layoutOf kind limit g0 cs .height)
     joined group p qs f r =
         let w = leastWidth kind g0 (take k cs) limit in
-        let g = least-reached (mayStand kind) kind (suits kind) g0 (take k cs) limit (omega (arith, group-long, k-within)) (sized-parts (take k cs) (drop k cs) (rw (take-append-drop k cs) s) .0) group-met group p (rw cap-is at f) in
-        let j = folds-join kind group g0 (take k cs) (groupPlaces w (take k cs) group p) w (leastHeight kind g0 (take k cs) w) (drop k cs) qs _ _ g r in
+        let few-in : length (take k cs) ≤ 256 = omega (arith, group-long, k-within) in
+        let sized-in = sized-parts (take k cs) (drop k cs) (rw (take-append-drop k cs) s) .0 in
+        let q : FoldPoint kind g0 (take k cs) w p = rw cap-is at f in
+        let g = least-reached (mayStand kind) kind (suits kind) g0 (take k cs) limit few-in sized-in group-met group p q in
+        let may : mayStand kind (take k cs) (leftsIn (placedOf (take k cs) (groupPlaces w (take k cs) group p))) ≡ true = rw (stands-so (mayStand kind) kind (suits kind) g0 (take k cs) limit few-in sized-in group-met group p q) (q .allowed) in
+        let j = folds-front kind group g0 (take k cs) (groupPlaces w (take k cs) group p) w (leastHeight kind g0 (take k cs) w) (drop k cs) qs _ _ g may r in
         rw (cap-is, rw k-is at (first .width), rw k-is at (first .height)) (rw (take-append-drop k cs) at j)
 
 -- Placements behind those of a group.

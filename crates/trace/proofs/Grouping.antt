@@ -7,7 +7,7 @@ use lib.ListN.{length, take}
 use lib.Seq.{length-take-le}
 use Rattle.terms.specs.declared.Kind.{Kind}
 use Rattle.terms.specs.declared.Kind.the-variants.{Apart, Nested}
-use Rattle.terms.specs.Component.{componentsIn}
+use Rattle.terms.specs.Seams.{componentsIn}
 use Rattle.terms.proofs.Answers.{most-256}
 use Rattle.group.specs.Group.{mayStand, FoldPoint}
 use Rattle.group.specs.Table.{Filled}
@@ -17,13 +17,13 @@ use Rattle.group_table.specs.Table.{Asks}
 use Rattle.group_height.specs.Heights.{HeightAsks}
 use Rattle.group_trace.specs.Trace.{WriteAsks}
 use Rattle.trace.specs.Trace.{GroupAsks, FoldFound, FirstAsks}
-use Rattle.layout.proofs.Columns.{columns-of, components-length, lists-take}
+use Rattle.layout.proofs.Columns.{columns-of, components-length, components-take, lists-take}
 
 module _ (kind : Kind) (g0 cap : ℕ) (hs ws gs work : List ℕ) (a : GroupAsks kind g0 hs ws gs work) where
   pub apart-found : kind ≡ Apart → FoldFound kind g0 cap hs ws gs work (length hs)
   apart-found e =
       let n = components-length hs ws gs in
-      record { point = rw e (rw n at (apart-point (mayStand Apart) g0 (componentsIn hs ws gs) cap (some-way Apart (componentsIn hs ws gs) (omega (arith, n, a .some))) (suits Apart))); table = λ h. absurd (omega arith) }
+      record { point = rw e (rw n at (apart-point (mayStand Apart) g0 (componentsIn hs ws gs) cap (some-way Apart (componentsIn hs ws gs) (omega (arith, n, a .some)) (a .free)) (suits Apart))); table = λ h. absurd (omega arith) }
 
   few-nested : kind ≡ Nested → length hs ≤ 64
   few-nested e = rw e at (a .lists .few)
@@ -37,9 +37,10 @@ module _ (kind : Kind) (g0 cap : ℕ) (hs ws gs work : List ℕ) (a : GroupAsks 
       record {
         table = record { columns = columns-of (a .lists); few = few-nested e; room = omega (arith, a .work-room) };
         some = a .some;
-        gaps-long = a .lists .same-gaps;
+        seams-long = a .lists .same-seams;
         gaps-low = a .lists .near;
         first-low = a .before;
+        free = a .free;
       },
       f,
     )
@@ -64,6 +65,6 @@ pub first-group : (kind : Kind) (g0 k : ℕ) (hs ws gs out work : List ℕ) → 
     → GroupAsks kind g0 (take k hs) (take k ws) (take k gs) work × (3 * length (take k hs) ≤ length out)
 first-group kind g0 k hs ws gs out work a =
     let n = length-take-le k hs (a .within) in (
-      record { lists = lists-take (a .lists) k (a .within); some = omega (arith, n, a .some); before = a .before; work-room = a .work-room },
+      record { lists = lists-take (a .lists) k (a .within); some = omega (arith, n, a .some); free = rw (components-take hs ws gs k (a .within)) (a .free); before = a .before; work-room = a .work-room },
       omega (arith, n, a .within, a .room),
     )

@@ -2,18 +2,20 @@
 use Prim.Native.Nat.{ℕ, _+_, _-_, _*_, _≤_, _<_}
 use mathlib.Core.Path.{_≡_, refl, sym, ap, _∙_}
 use mathlib.Core.List.{List, [], _∷_, _++_}
+use mathlib.Core.Bool.{true}
 use native.Mathlib.Omega.{arith}
 use lib.ListN.{length, getD, take, drop, length-drop, length-append}
 use lib.Seq.{length-take-le, drop-drop, drop-append-add, take-at, drop-append-seam}
 use borrow.Rule.Slice.PartMut.{putMid}
 use Rattle.terms.specs.declared.Kind.{Kind}
-use Rattle.terms.specs.Component.{tabulate, componentsIn}
+use Rattle.terms.specs.Component.{tabulate}
+use Rattle.terms.specs.Seams.{gapAt, componentsIn}
 use Rattle.terms.proofs.Answers.{most-256}
 use Rattle.terms.proofs.Parts.{from, back}
 use Rattle.folding.specs.declared.Placement.{Placement}
 use Rattle.folding.specs.Placement.{placementsOf}
 use Rattle.group.specs.Rows.{gap}
-use Rattle.group.specs.Group.{FoldPoint, groupPlaces}
+use Rattle.group.specs.Group.{unbarred, FoldPoint, groupPlaces}
 use Rattle.group.specs.Table.{bare}
 use Rattle.folding.specs.Placement.{flatOf}
 use Rattle.group.proofs.Bare.{places-bare}
@@ -26,7 +28,7 @@ use Rattle.layout.proofs.Folds.{Folds, folds-none}
 use Rattle.trace.specs.Trace.{GroupPut, FirstAsks, Met, TraceAsks, Traced}
 use Rattle.group.proofs.Gaps.{gap-behind}
 use Rattle.layout.proofs.Columns.{components-length, lists-drop, components-take, components-drop, sized-lists}
-use Rattle.trace.proofs.First.{end-bounds, no-wider, rest-met, joined, placements-behind}
+use Rattle.trace.proofs.First.{end-bounds, group-free, no-wider, rest-met, joined, placements-behind}
 
 -- The part of a list from k on, as it is lent.
 abbrev part : ℕ → List ℕ → List ℕ
@@ -61,12 +63,15 @@ module _ (kind : Kind) (group g0 : ℕ) (hs ws gs widths ends out work : List �
       no-wider kind (a .limit) g0 (componentsIn hs ws gs) widths (a .heights) ends some-in few (sized-lists (a .lists)) (a .plan) k e,
     )
 
+    free-in : unbarred (take k (componentsIn hs ws gs)) ≡ true
+    free-in = group-free kind (a .limit) g0 (componentsIn hs ws gs) widths (a .heights) ends some-in few (sized-lists (a .lists)) (a .plan) k e
+
     pub put-asks : FirstAsks kind g0 k hs ws gs out work
-    put-asks = record { lists = a .lists; some = k-some; within = k-within; before = a .before; room = a .room; work-room = a .work-room }
+    put-asks = record { lists = a .lists; some = k-some; within = k-within; free = free-in; before = a .before; room = a .room; work-room = a .work-room }
 
     module _ (cap : ℕ) (d : cap ≡ getD widths 0 0 - getD widths k 0) where
       -- The rest, behind the gap of the group's last component.
-      module _ (gap-before : ℕ) (b : gap-before ≡ getD gs (k - 1) 0) where
+      module _ (gap-before : ℕ) (b : gap-before ≡ gapAt gs (k - 1)) where
         met-rest : (limit : ℕ) (heights : List ℕ) → Met kind limit g0 (componentsIn hs ws gs) widths heights ends
             → Met kind limit gap-before (componentsIn (drop k hs) (drop k ws) (drop k gs)) (drop k widths) (drop k heights) (drop k ends)
         met-rest limit heights m =

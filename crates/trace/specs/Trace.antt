@@ -2,24 +2,26 @@
 use Prim.Native.Nat.{ℕ, _+_, _*_, _≤_, _<_}
 use mathlib.Core.Path.{_≡_}
 use mathlib.Core.List.{List, _++_}
-use lib.ListN.{length, drop}
+use mathlib.Core.Bool.{true}
+use lib.ListN.{length, take, drop}
 use Rattle.numbers.specs.Table.{cells}
 use Rattle.terms.specs.Numbers.{mostSize, mostApart, mostNested}
 use Rattle.terms.specs.declared.Component.{Component}
 use Rattle.terms.specs.declared.Kind.{Kind}
-use Rattle.terms.specs.Component.{componentsIn}
+use Rattle.terms.specs.Seams.{componentsIn}
 use Rattle.folding.specs.Placement.{placementsOf}
-use Rattle.group.specs.Group.{none, FoldPoint, groupPlaces}
+use Rattle.group.specs.Group.{none, unbarred, FoldPoint, groupPlaces}
 use Rattle.group.specs.Table.{Filled, bare}
 use Rattle.folding.specs.Placement.{flatOf}
 use Rattle.layout.specs.Layout.{layoutOf}
 use Rattle.layout.specs.Plan.{StackLists, Planned}
 use Rattle.layout.proofs.Folds.{Folds}
 
--- One group: its columns and the gap before it.
+-- One group: its columns and the gap before it. It may end where it ends.
 pub record GroupAsks (kind : Kind) (g0 : ℕ) (hs ws gs work : List ℕ) : Type 0 where
   pub lists : StackLists kind hs ws gs
   pub some : 0 < length hs
+  pub free : unbarred (componentsIn hs ws gs) ≡ true
   pub before : g0 ≤ mostSize
   pub work-room : cells ≤ length work
 
@@ -38,6 +40,7 @@ pub record FirstAsks (kind : Kind) (g0 k : ℕ) (hs ws gs out work : List ℕ) :
   pub lists : StackLists kind hs ws gs
   pub some : 0 < k
   pub within : k ≤ length hs
+  pub free : unbarred (take k (componentsIn hs ws gs)) ≡ true
   pub before : g0 ≤ mostSize
   pub room : 3 * length hs ≤ length out
   pub work-room : cells ≤ length work

@@ -2,9 +2,9 @@
 ghost use mathlib.Core.Path.{_≡_};
 ghost use Prim.Native.Nat.{_-_, _*_, _≤_, _<_};
 ghost use lib.ListN.{length, getD, take};
-ghost use Rattle.terms.specs.Component.{componentsIn};
+ghost use Rattle.terms.specs.Seams.{gapAt, componentsIn};
 ghost use Rattle.trace.specs.Trace.{GroupAsks, FoldFound, GroupPut, FirstAsks, TraceAsks, Traced};
-use numbers::get;
+use numbers::gap;
 use terms::Kind;
 use terms::Rows;
 use terms::Slices;
@@ -71,9 +71,9 @@ fn cap_of(widths: &[u32], k: usize) -> Slices
 
 fn last_gap(g: &[u16], k: usize) -> Rows
     requires { ⌜ (0 < k) × (k ≤ length (now g)) ⌝ }
-    ensures { λ r. ⌜ r .0 ≡ getD (now (g .entry)) (k - 1) 0 ⌝ }
+    ensures { λ r. ⌜ r .0 ≡ gapAt (now (g .entry)) (k - 1) ⌝ }
 {
-    Rows(get(g, k - 1))
+    Rows(gap(g, k - 1))
 }
 
 // Places the first k components.

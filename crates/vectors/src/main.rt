@@ -1,6 +1,7 @@
 // Runs every line of a file of small stacks and their outline tables through the table, the smallest area and both folds, at
-// each outline and between outlines, and counts.
-// A line: components as height/width/gap, the apart table, the nested table, apart by bars.
+// each outline and between outlines, and counts: as the file that the line lists, and as the file that the writer makes of it.
+// A line: components as height/width/gap, the apart table, the nested table, apart by bars. Where components are
+// height/width/gap/mark, the smallest area apart, nested and the sum of the components' cells follow; the sum is not asked for.
 use folding::Measured;
 use terms::Counted;
 use terms::Kind;
@@ -119,20 +120,31 @@ fn numbers(text: &[u8], out: &mut [u32]) -> usize
     last.found
 }
 
-fn narrow(n: u32) -> u16 {
-    if n < 65536 { n as u16 } else { 65535 }
+fn behind(text: &[u8], at: usize) -> usize
+    requires { ⌜ at ≤ length (now text) ⌝ }
+    ensures { λ r. ⌜ r ≤ length (now (text .entry)) ⌝ }
+{
+    if at < text.len() { at + 1 } else { at }
 }
 
-// Every third of the numbers, from the given one on.
-fn column(numbers: &[u32], from: usize, out: &mut [u16])
-    requires { ⌜ from ≤ 2 ⌝ }
-    requires { ⌜ 3 * length (now out) ≤ length (now numbers) ⌝ }
+// Where a field begins, from 0 on: behind as many bars.
+fn field_start(text: &[u8], k: usize) -> usize
+    ensures { λ r. ⌜ r ≤ length (now (text .entry)) ⌝ }
 {
+    let mut from = 0;
     let mut i = 0;
-    while i < out.len() {
-        out[i] = narrow(numbers[3 * i + from]);
+    while i < k {
+        from = behind(text, find(text, from, 124));
         i += 1;
     }
+    from
+}
+
+// A field that is not there is empty.
+fn field<'a>(text: &'a [u8], k: usize) -> &'a [u8] {
+    let from = field_start(text, k);
+    let end = find(text, from, 124);
+    &text[from..end]
 }
 
 fn is(a: Measured, width: u32, height: u32) -> bool {
@@ -314,59 +326,140 @@ fn listed_cases(file: &[u8], kind: Kind, numbers: &[u32], n: usize, t: Tally) ->
     below_cases(file, kind, table, c)
 }
 
-fn kind_cases(file: &[u8], kind: Kind, text: &[u8], t: Tally) -> Tally {
+// The smallest area, where the line lists it.
+fn listed_area(file: &[u8], kind: Kind, text: &[u8], t: Tally) -> Tally {
+    let mut pair = [0u32; 2];
+    if numbers(text, &mut pair) == 2 {
+        return count(t, smallest_area(file, kind, pair[0], pair[1]));
+    }
+    t
+}
+
+fn kind_cases(file: &[u8], kind: Kind, pairs: &[u8], area: &[u8], t: Tally) -> Tally {
     let mut table = [0u32; 64];
-    let n = numbers(text, &mut table);
-    listed_cases(file, kind, &table, n, t)
+    let n = numbers(pairs, &mut table);
+    let a = listed_cases(file, kind, &table, n, t);
+    listed_area(file, kind, area, a)
 }
 
-fn tables(file: &[u8], text: &[u8], t: Tally) -> Tally {
-    let bar = find(text, 0, 124);
-    let a = kind_cases(file, Kind::Apart, &text[..bar], t);
-    kind_cases(file, Kind::Nested, &text[bar..], a)
+fn file_cases(file: &[u8], text: &[u8], t: Tally) -> Tally {
+    let a = kind_cases(file, Kind::Apart, field(text, 1), field(text, 3), t);
+    kind_cases(file, Kind::Nested, field(text, 2), field(text, 4), a)
 }
 
-// The stack file of the first n entries of three lists, and its length.
-fn file_of(heights: &[u16], widths: &[u16], gaps: &[u16], n: usize, file: &mut [u8]) -> usize
+// The stack file of the first n entries of four lists, and its length.
+fn write_first(
+    heights: &[u16],
+    widths: &[u16],
+    gaps: &[u16],
+    marks: &[u16],
+    n: usize,
+    file: &mut [u8],
+) -> usize
     requires { ⌜ n ≤ length (now heights) ⌝ }
     requires { ⌜ n ≤ length (now widths) ⌝ }
     requires { ⌜ n ≤ length (now gaps) ⌝ }
+    requires { ⌜ n ≤ length (now marks) ⌝ }
 {
-    match stack_write::write(&heights[..n], &widths[..n], &gaps[..n], file) {
+    match stack_write::write(&heights[..n], &widths[..n], &gaps[..n], &marks[..n], file) {
         Counted::Count(k) => k,
         Counted::Refused(k) => 0,
     }
 }
 
-// The components of a line as a stack file, and its length.
-fn stack_file(text: &[u8], file: &mut [u8]) -> usize {
-    let mut sizes = [0u32; 36];
-    let n = numbers(text, &mut sizes) / 3;
+// The file that the writer makes of what reading gives, and its length.
+fn written(file: &[u8], out: &mut [u8]) -> usize {
     let mut heights = [0u16; 12];
     let mut widths = [0u16; 12];
     let mut gaps = [0u16; 12];
-    column(&sizes, 0, &mut heights);
-    column(&sizes, 1, &mut widths);
-    column(&sizes, 2, &mut gaps);
-    file_of(&heights, &widths, &gaps, n, file)
+    let mut marks = [0u16; 12];
+    match stack::read(file, &mut heights, &mut widths, &mut gaps, &mut marks) {
+        Counted::Count(n) => {
+            if 12 < n {
+                return 0;
+            }
+            write_first(&heights, &widths, &gaps, &marks, n, out)
+        }
+        Counted::Refused(k) => 0,
+    }
 }
 
-fn file_tables(file: &[u8], n: usize, text: &[u8], t: Tally) -> Tally {
+fn first_cases(file: &[u8], n: usize, text: &[u8], t: Tally) -> Tally {
     if n <= file.len() {
-        return tables(&file[..n], text, t);
+        return file_cases(&file[..n], text, t);
     }
     count(t, false)
 }
 
-// A line's stack, and its two tables behind the first bar.
-fn line(text: &[u8], t: Tally) -> Tally {
-    let mut file = [0u8; 79];
-    let bar = find(text, 0, 124);
-    let n = stack_file(&text[..bar], &mut file);
-    if bar < text.len() {
-        return file_tables(&file, n, &text[bar + 1..], t);
+fn written_cases(file: &[u8], text: &[u8], t: Tally) -> Tally {
+    let mut out = [0u8; 103];
+    let n = written(file, &mut out);
+    first_cases(&out, n, text, t)
+}
+
+fn put_byte(file: &mut [u8], i: usize, b: u8) {
+    if i < file.len() {
+        file[i] = b;
+    }
+}
+
+fn put_word(file: &mut [u8], i: usize, x: u32)
+    requires { ⌜ i ≤ 103 ⌝ }
+{
+    put_byte(file, i, (x % 256) as u8);
+    put_byte(file, i + 1, (x / 256 % 256) as u8);
+}
+
+fn put_words(sizes: &[u32], n: usize, file: &mut [u8])
+    requires { ⌜ n ≤ length (now sizes) ⌝ }
+    requires { ⌜ n ≤ 48 ⌝ }
+{
+    let mut i = 0;
+    while i < n {
+        put_word(file, 7 + 2 * i, sizes[i]);
+        i += 1;
+    }
+}
+
+fn put_header(file: &mut [u8], version: u32, n: u32) {
+    put_byte(file, 0, b'S');
+    put_byte(file, 1, b'T');
+    put_byte(file, 2, b'K');
+    put_word(file, 3, version);
+    put_word(file, 5, n);
+}
+
+// Lines with marks have a field for the smallest area.
+fn version_of(text: &[u8]) -> u32
+    ensures { λ r. ⌜ r ≤ 2 ⌝ }
+{
+    if field(text, 3).len() == 0 { 1 } else { 2 }
+}
+
+// The stack file of a line's numbers, in the order in which they stand, and its length: the writer makes no version 1. A
+// component has three numbers there, and four in version 2.
+fn listed_file(text: &[u8], file: &mut [u8]) -> usize {
+    let mut sizes = [0u32; 48];
+    let n = numbers(field(text, 0), &mut sizes);
+    let version = version_of(text);
+    put_header(file, version, n as u32 / (version + 2));
+    put_words(&sizes, n, file);
+    7 + 2 * n
+}
+
+fn both_files(file: &[u8], n: usize, text: &[u8], t: Tally) -> Tally {
+    if n <= file.len() {
+        let listed = &file[..n];
+        let a = file_cases(listed, text, t);
+        return written_cases(listed, text, a);
     }
     count(t, false)
+}
+
+fn line(text: &[u8], t: Tally) -> Tally {
+    let mut file = [0u8; 103];
+    let n = listed_file(text, &mut file);
+    both_files(&file, n, text, t)
 }
 
 fn say(text: &[u8], n: u32) {

@@ -1,13 +1,16 @@
 //! Times both folds and the table, next to document 001's own method on the same stacks, both folds over a sweep of
 //! limits, the smallest area, and measuring; checks that all find the same outlines. Prints the tables of
-//! docs/PERFORMANCE.md, and as each row is done a line to standard error. Arguments: --measure, to time measuring alone.
-//! With a file behind it: --picture, where to write the plot; --before, the figures of an earlier run to show beside
-//! these; --keep, where to write the figures of this one.
+//! docs/PERFORMANCE.md, and as each row is done a line to standard error. Arguments: --measure, to time measuring alone;
+//! --marks, to time only stacks with barred folds, beside the same without marks. With a file behind it: --picture, where
+//! to write the plot; --before, the figures of an earlier run to show beside these; --keep, where to write the figures of
+//! this one.
 
+mod barred;
 mod clock;
 mod figures;
 mod growth;
 mod library;
+mod marks;
 mod measuring;
 mod panels;
 mod paper;
@@ -41,6 +44,9 @@ fn main() {
     // Read first: a file that cannot be read should not cost a whole run.
     let before = named("--before").map(|path| figures::rows(&fs::read_to_string(path).expect("the figures are read")));
     let before = before.unwrap_or_default();
+    if env::args().any(|word| word == "--marks") {
+        return marks::print(&before);
+    }
     let nested = rows(true, &[8, 16, 32, 48, 64]);
     let apart = rows(false, &[16, 64, 128, 256]);
     if let Some(path) = named("--keep") {
@@ -80,8 +86,7 @@ fn rows(nested: bool, counts: &[usize]) -> Vec<Row> {
     let mut rows = Vec::new();
     for &count in counts {
         for (i, (shape, name)) in SHAPES.into_iter().enumerate() {
-            // A seed for each row: its stacks do not depend on how many the rows before had time for.
-            let mut rng = Rng((SHAPES.len() * count + i) as u64);
+            let mut rng = Rng(seed(count, i));
             let start = clock::seconds();
             let timed = cell(&mut rng, nested, count, shape);
             let (stacks, seconds) = (timed.len(), clock::seconds() - start);
@@ -90,6 +95,11 @@ fn rows(nested: bool, counts: &[usize]) -> Vec<Row> {
         }
     }
     rows
+}
+
+/// A seed for each row: its stacks do not depend on how many the rows before had time for.
+fn seed(count: usize, shape_at: usize) -> u64 {
+    (SHAPES.len() * count + shape_at) as u64
 }
 
 fn cell(rng: &mut Rng, nested: bool, count: usize, shape: Shape) -> Vec<Timed> {

@@ -45,8 +45,12 @@ fn times(nested: bool, count: usize, each: usize, lowest: u32) -> Vec<f64> {
 }
 
 fn folded(rng: &mut Rng, nested: bool, count: usize, each: usize, lowest: u32) -> Folded {
-    let component =
-        |_| Component { height: Rows(rng.within(lowest, TALLEST)), width: Slices(rng.within(1, 4000)), gap: Rows(0) };
+    let component = |_| Component {
+        height: Rows(rng.within(lowest, TALLEST)),
+        width: Slices(rng.within(1, 4000)),
+        gap: Rows(0),
+        barred: false,
+    };
     let components: Vec<Component> = (0..count).map(component).collect();
     let file = write(&components).expect("the numbers are in range");
     let groups = components.chunks(each).enumerate();

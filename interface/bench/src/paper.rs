@@ -1,5 +1,6 @@
 //! Document 001's own method, with document 01's corrections: equations (4) and (5), Theorem 2 and section 5.1. Every least
-//! width of a group is found by halving over the sorted sums of widths, and nothing is bounded by the best so far.
+//! width of a group is found by halving over the sorted sums of widths, and nothing is bounded by the best so far. Groups
+//! that would end or fold where that is barred are left out.
 //! It gives outlines only and writes no placements, which is less work than the library's.
 
 use stack_folds::{Component, Outline, Rows, Slices};
@@ -8,6 +9,7 @@ pub struct Paper {
     heights: Vec<u32>,
     widths: Vec<u32>,
     gaps: Vec<u32>,
+    barred: Vec<bool>,
     nested: bool,
     /// The widths that a group can have: one component's, or two that lie side by side.
     sums: Vec<u32>,
@@ -28,7 +30,8 @@ impl Paper {
         let n = stack.len();
         let least = vec![0; (n + 1) * (n + 1)];
         let gaps = stack.iter().map(|c| c.gap.0).collect();
-        Paper { sums: sums(&widths), heights, widths, gaps, nested, before, least }
+        let barred = stack.iter().map(|c| c.barred).collect();
+        Paper { sums: sums(&widths), heights, widths, gaps, barred, nested, before, least }
     }
 
     /// The narrowest layout that keeps the height, and of those the lowest: equation (5).
@@ -43,7 +46,7 @@ impl Paper {
                     break;
                 }
                 let rest = best[last + 1];
-                if rest.0 != NONE {
+                if rest.0 != NONE && !self.barred[last] {
                     if let Some((width, height)) = self.least_width(first, last, limit) {
                         best[first] = best[first].min((width + rest.0, height.max(rest.1)));
                     }
@@ -112,7 +115,7 @@ impl Paper {
         }
         self.fill(first, last, width);
         let folded = |k: usize| self.least[self.cell(first, last, k, k + 1)] + before.max(after) + self.gaps[k];
-        Some((first..last).map(folded).fold(unfolded, u32::min))
+        Some((first..last).filter(|&k| !self.barred[k]).map(folded).fold(unfolded, u32::min))
     }
 
     /// The place of B for the components up to `left`, from the group's first, and from `right` to its last. None on the

@@ -67,7 +67,7 @@ pub fn time_stack(stack: &Stack, nested: bool) -> Timed {
         &widths(&table),
         |limit| library.fold_to_width(limit),
         |limit| paper.fold_to_width(limit),
-        |limit| table.iter().rfind(|line| line.width.0 <= limit).copied(),
+        |limit| within_width(&table, limit),
     );
     let dearest = [f64::from(height) / f64::from(narrowest.height.0), f64::from(width) / f64::from(narrowest.width.0)];
     let area = Some(time_area(&mut library, &table));
@@ -77,8 +77,7 @@ pub fn time_stack(stack: &Stack, nested: bool) -> Timed {
 /// The smallest area must be the table's, and the fold must find its outline. The least time of each counts: area and
 /// table are often close, and other work on the machine would decide which seems longer.
 fn time_area(library: &mut Library, table: &[Outline]) -> Area {
-    let area = |line: &&Outline| u64::from(line.width.0) * u64::from(line.height.0);
-    let smallest = table.iter().min_by_key(area).copied(); // the first of equals, which is the narrowest
+    let smallest = smallest(table);
     let height = smallest.map_or(0, |line| line.height.0);
     let mut least = [f64::INFINITY; 3];
     for _ in 0..TURNS {
@@ -91,6 +90,12 @@ fn time_area(library: &mut Library, table: &[Outline]) -> Area {
     }
     let [call, table, fold] = least;
     Area { call, table, fold }
+}
+
+/// The line of the least area, and of equal ones the first, which is the narrowest.
+pub fn smallest(table: &[Outline]) -> Option<Outline> {
+    let area = |line: &&Outline| u64::from(line.width.0) * u64::from(line.height.0);
+    table.iter().min_by_key(area).copied()
 }
 
 /// The cost of a fold, and its dearest limit. Every outline of the sweep must be the table's for that limit.
@@ -114,13 +119,13 @@ fn time_fold(
     (Cost { library: library_seconds, paper: paper_seconds, worst }, dearest)
 }
 
-fn spaced(least: u32, greatest: u32) -> Vec<u32> {
+pub fn spaced(least: u32, greatest: u32) -> Vec<u32> {
     (0..LIMITS).map(|i| least + (greatest - least) * i / (LIMITS - 1)).collect()
 }
 
 /// The widths of a sweep: evenly spaced ones, and those that evenly spaced heights need. The fold to a width is dear
 /// within a few times the least, where few of the former lie and most of the latter do.
-fn widths(table: &[Outline]) -> Vec<u32> {
+pub fn widths(table: &[Outline]) -> Vec<u32> {
     let (narrowest, lowest) = (table[0], table[table.len() - 1]);
     let mut widths = spaced(narrowest.width.0, lowest.width.0);
     let heights = spaced(lowest.height.0, narrowest.height.0);
@@ -131,8 +136,13 @@ fn widths(table: &[Outline]) -> Vec<u32> {
 }
 
 /// The narrowest line that keeps the height.
-fn within_height(table: &[Outline], limit: u32) -> Option<Outline> {
+pub fn within_height(table: &[Outline], limit: u32) -> Option<Outline> {
     table.iter().find(|line| line.height.0 <= limit).copied()
+}
+
+/// The lowest line that keeps the width.
+pub fn within_width(table: &[Outline], limit: u32) -> Option<Outline> {
+    table.iter().rfind(|line| line.width.0 <= limit).copied()
 }
 
 /// What both methods find, which must be the same, and the seconds of the library and of document 001's method.
@@ -153,7 +163,7 @@ pub fn least_time<T>(mut call: impl FnMut() -> T) -> (T, f64) {
 }
 
 /// A call's result and its seconds.
-fn time<T>(mut call: impl FnMut() -> T) -> (T, f64) {
+pub fn time<T>(mut call: impl FnMut() -> T) -> (T, f64) {
     let start = clock::seconds();
     let mut calls = 0;
     loop {

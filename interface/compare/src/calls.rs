@@ -61,14 +61,14 @@ pub struct Caller {
     /// What the last call left in its work buffer: it means something to the library, as noise does not.
     left: Vec<u32>,
     /// Calls made, by the refusal that they gave; 0 is a result.
-    pub answers: [u64; 11],
+    pub answers: [u64; 12],
 }
 
 impl Caller {
     pub fn new(seed: u64) -> Caller {
         let mut rng = Rng(seed);
         let noise = (0..1 << 16).map(|_| rng.next()).collect();
-        Caller { rng, noise, left: Vec::new(), answers: [0; 11] }
+        Caller { rng, noise, left: Vec::new(), answers: [0; 12] }
     }
 
     fn lend<T: Copy>(&mut self, length: usize, cut: fn(u64) -> T) -> Lent<T> {
@@ -106,10 +106,10 @@ impl Caller {
         same("check", counted(answer), rules::check(file, nested).map(|stack| stack.len()))
     }
 
-    pub fn read(&mut self, file: &[u8], lengths: [usize; 3]) -> Compared<()> {
+    pub fn read(&mut self, file: &[u8], lengths: [usize; 4]) -> Compared<()> {
         let mut lists = lengths.map(|length| self.lend(length, |noise| noise as u16));
-        let [heights, widths, gaps] = &mut lists;
-        let answer = raw::read(file, &mut heights.now, &mut widths.now, &mut gaps.now);
+        let [heights, widths, gaps, marks] = &mut lists;
+        let answer = raw::read(file, &mut heights.now, &mut widths.now, &mut gaps.now, &mut marks.now);
         self.told(answer.refusal)?;
         let own = rules::read(file, lengths);
         same("read", counted(answer), own.as_ref().map(|stack| stack.len()).map_err(|number| *number))?;
@@ -117,7 +117,7 @@ impl Caller {
         lists.iter().try_for_each(|list| list.unchanged_from(stack.len(), "a list of read"))?;
         for (i, c) in stack.iter().enumerate() {
             let read = lists.each_ref().map(|list| u32::from(list.now[i]));
-            same("a component of read", read, [c.height, c.width, c.gap])?;
+            same("a component of read", read, [c.height, c.width, c.gap, c.mark])?;
         }
         Ok(())
     }
@@ -128,9 +128,9 @@ impl Caller {
         same("lookup", (part.start, part.length), rules::lookup(file, number))
     }
 
-    pub fn write(&mut self, lists: [&[u16]; 3], room: usize) -> Compared<()> {
+    pub fn write(&mut self, lists: [&[u16]; 4], room: usize) -> Compared<()> {
         let mut file = self.lend(room, |noise| noise as u8);
-        let answer = raw::write(lists[0], lists[1], lists[2], &mut file.now);
+        let answer = raw::write(lists[0], lists[1], lists[2], lists[3], &mut file.now);
         self.told(answer.refusal)?;
         let own = rules::write(lists, room);
         same("write", counted(answer), own.as_ref().map(|bytes| bytes.len()).map_err(|number| *number))?;

@@ -27,11 +27,11 @@ pub const CALLS: [Call; 10] = [
 /// One call on damaged input.
 pub fn case(caller: &mut Caller, call: Call, file: &[u8], nested: bool) -> Compared<()> {
     let rng = &mut caller.rng;
-    let n = file.len().saturating_sub(7) / 6;
+    let n = components(file);
     match call {
         Call::Check => caller.check(file, nested),
         Call::Read => {
-            let lengths = [(); 3].map(|_| length(rng, n));
+            let lengths = [(); 4].map(|_| length(rng, n));
             caller.read(file, lengths)
         }
         Call::Lookup => {
@@ -53,11 +53,25 @@ pub fn case(caller: &mut Caller, call: Call, file: &[u8], nested: bool) -> Compa
     }
 }
 
+/// Bytes that a component of the file has by its version, if that is one.
+fn bytes_each(file: &[u8]) -> usize {
+    match file.get(3) {
+        Some(2) => 8,
+        _ => 6,
+    }
+}
+
+/// How many components the file has room for.
+fn components(file: &[u8]) -> usize {
+    file.len().saturating_sub(7) / bytes_each(file)
+}
+
 /// A file with up to three damages, so that the order of refusals shows. Some have none: then it is the folding, the limit
 /// or a buffer that may be wrong.
 pub fn damaged_file(rng: &mut Rng, call: Call, nested: bool) -> Vec<u8> {
     let (count, shape) = (1 + rng.below(6), rng.pick(&SHAPES));
-    let mut file = stack::file(&stack::random(rng, count, shape));
+    let stack = stack::random(rng, count, shape);
+    let mut file = stack::some_file(rng, &stack);
     for _ in 0..rng.pick(&[0, 0, 1, 1, 2, 3]) {
         damage_file(rng, &mut file, call, nested);
     }
@@ -65,13 +79,13 @@ pub fn damaged_file(rng: &mut Rng, call: Call, nested: bool) -> Vec<u8> {
 }
 
 fn damage_file(rng: &mut Rng, file: &mut Vec<u8>, call: Call, nested: bool) {
-    match rng.below(8) {
+    match rng.below(9) {
         0 => flip(rng, file, usize::MAX),
         1 => flip(rng, file, 7),
         2 => file.truncate(rng.below(file.len() + 1)),
         3 => file.extend((0..1 + rng.below(7)).map(|_| rng.next() as u8).collect::<Vec<u8>>()),
         4 => put(file, 5, rng.pick(&[0, 1, 2, 7, 64, 65, 256, 257, 65535])),
-        5 => put(file, 3, rng.pick(&[0, 1, 2, 256, 65535])),
+        5 => put(file, 3, rng.pick(&[0, 1, 1, 2, 2, 3, 256, 257, 258, 512, 65535])),
         6 => resize(rng, file, call, nested),
         _ => bad_number(rng, file),
     }
@@ -97,20 +111,21 @@ fn resize(rng: &mut Rng, file: &mut Vec<u8>, call: Call, nested: bool) {
     file.truncate(7);
     put(file, 5, count);
     for i in 0..count {
-        let gap = if i + 1 < count { rng.below(2) as u16 } else { 0 };
-        for number in [rng.within(1, 3) as u16, rng.within(1, 5) as u16, gap] {
+        let [gap, mark] = [(); 2].map(|()| if i + 1 < count { rng.below(2) as u16 } else { 0 });
+        let numbers = [rng.within(1, 3) as u16, rng.within(1, 5) as u16, gap, mark];
+        for number in &numbers[..bytes_each(file) / 2] {
             file.extend(number.to_le_bytes());
         }
     }
 }
 
-/// A height, width or gap at the edge of its range, or past it.
+/// A height, width, gap or mark at the edge of its range, or past it.
 fn bad_number(rng: &mut Rng, file: &mut [u8]) {
-    let components = file.len().saturating_sub(7) / 6;
+    let (components, each) = (components(file), bytes_each(file));
     if components > 0 {
-        let last = if rng.one_in(3) { components - 1 } else { rng.below(components) };
-        let number = rng.pick(&[0, 1, 4000, 4001, 32768, 65535]);
-        put(file, 7 + 6 * last + 2 * rng.below(3), number);
+        let at = if rng.one_in(3) { components - 1 } else { rng.below(components) };
+        let number = rng.pick(&[0, 1, 2, 256, 4000, 4001, 32768, 65535]);
+        put(file, 7 + each * at + 2 * rng.below(each / 2), number);
     }
 }
 
@@ -138,7 +153,7 @@ fn limit(rng: &mut Rng) -> u32 {
 
 fn fold(caller: &mut Caller, file: &[u8], nested: bool, aim: Aim) -> Compared<()> {
     let rng = &mut caller.rng;
-    let room = length(rng, 3 * (file.len().saturating_sub(7) / 6));
+    let room = length(rng, 3 * components(file));
     let call = FoldCall { file, nested, aim, room, work: work_length(rng) };
     let answer = caller.fold(&call)?;
     match rules::fold(file, nested, aim, room, call.work) {
@@ -161,17 +176,15 @@ fn table(caller: &mut Caller, file: &[u8], nested: bool) -> Compared<()> {
 }
 
 fn write(caller: &mut Caller, file: &[u8]) -> Compared<()> {
-    let numbers: Vec<u16> =
-        file.get(7..).unwrap_or(&[]).chunks_exact(2).map(|b| u16::from_le_bytes([b[0], b[1]])).collect();
-    let list = |which: usize| numbers.iter().skip(which).step_by(3).copied().collect::<Vec<u16>>();
-    let mut lists = [list(0), list(1), list(2)];
-    let shortest = lists.iter().map(Vec::len).min().unwrap();
-    lists.iter_mut().for_each(|list| list.truncate(shortest));
+    let number = |b: &[u8], at: usize| b.get(at..at + 2).map_or(0, |b| u16::from_le_bytes([b[0], b[1]]));
+    let components = || file.get(7..).unwrap_or(&[]).chunks_exact(bytes_each(file));
+    let mut lists = [0, 2, 4, 6].map(|at| components().map(|b| number(b, at)).collect::<Vec<u16>>());
+    let full = 7 + 8 * lists[0].len();
     let rng = &mut caller.rng;
     if rng.one_in(5) {
-        lists[rng.below(3)].pop();
+        lists[rng.below(4)].pop();
     }
-    let room = length(rng, 7 + 6 * shortest);
+    let room = length(rng, full);
     caller.write(lists.each_ref().map(|list| &list[..]), room)
 }
 
@@ -183,10 +196,14 @@ fn choose(caller: &mut Caller, file: &[u8], nested: bool) -> Compared<()> {
     caller.choose(file, nested, &first, &second)
 }
 
-/// A folding for the file's stack, or for some other where the file is refused, with up to two damages.
+/// A folding for the file's stack, or for some other where the file is refused, with up to two damages. Some do not ask
+/// for the marks, and so part barred neighbours at a group's end or at a fold.
 fn damaged_folding(rng: &mut Rng, file: &[u8], nested: bool) -> Vec<u32> {
-    let other = [Component { height: 1, width: 1, gap: 0 }; 3];
-    let stack = rules::check(file, nested).unwrap_or(other.to_vec());
+    let other = [Component { height: 1, width: 1, gap: 0, mark: 0 }; 3];
+    let mut stack = rules::check(file, nested).unwrap_or(other.to_vec());
+    if rng.one_in(4) {
+        stack.iter_mut().for_each(|c| c.mark = 0);
+    }
     let both_sides = nested || rng.one_in(8);
     let mut folding = random_folding(rng, &stack, both_sides, 6, 0);
     for _ in 0..rng.below(3) {
@@ -218,14 +235,17 @@ fn damage_folding(rng: &mut Rng, folding: &mut Vec<u32>) {
     }
 }
 
-/// A legal folding of the kind, with empty rows here and there. Its groups have up to `most` components and begin up to
-/// `lift` rows above row 0.
+/// A legal folding of the kind, with empty rows here and there. Its groups have up to `most` components, or more where
+/// marks keep those together, and begin up to `lift` rows above row 0.
 pub fn random_folding(rng: &mut Rng, stack: &[Component], nested: bool, most: usize, lift: u32) -> Vec<u32> {
     let mut folding = vec![0; 3 * stack.len()];
+    let may_part = |at: usize| stack[at - 1].mark == 0;
     let (mut first, mut group) = (0, 0);
     while first < stack.len() {
         let end = first + 1 + rng.below((stack.len() - first).min(most));
+        let end = (end..).find(|&at| may_part(at)).unwrap();
         let right = if nested { first + 1 + rng.below(end - first) } else { end };
+        let right = (right..).find(|&at| may_part(at)).unwrap();
         let lowest = rng.within(0, lift);
         let mut side = |components: &mut dyn Iterator<Item = usize>, side: u32| {
             let mut row = lowest;

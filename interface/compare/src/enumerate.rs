@@ -6,6 +6,9 @@
 //! moves down by one, keeps the order in both sides, changes no other row's sum and lowers T by one. So each folding beyond
 //! the bound is equalled or beaten by one within it, in area too. With some spare rows the enumeration tries that argument
 //! itself.
+//!
+//! Marks leave nothing out here: foldings that part barred neighbours are tried like all others, and the rules of a legal
+//! folding say which are broken.
 
 use crate::front::{smaller, Front};
 use crate::measure::{outline, Outline};
@@ -19,6 +22,8 @@ struct Search<'a> {
     front: Front,
     smallest: Option<Outline>,
     foldings: u64,
+    parted: u64,
+    some_parted: Vec<Vec<u32>>,
 }
 
 /// What all foldings of a stack come to.
@@ -28,31 +33,50 @@ pub struct Enumerated {
     pub smallest: Outline,
     /// How many were measured.
     pub foldings: u64,
+    /// How many more part barred neighbours and are legal otherwise, and some of them.
+    pub parted: u64,
+    pub some_parted: Vec<Vec<u32>>,
 }
 
 pub fn all(stack: &[Component], nested: bool, spare: u32) -> Enumerated {
     let folding = vec![0; 3 * stack.len()];
-    let front = Front::default();
-    let mut search = Search { stack, nested, spare, folding, front, smallest: None, foldings: 0 };
+    let (front, some_parted) = (Front::default(), Vec::new());
+    let mut search =
+        Search { stack, nested, spare, folding, front, smallest: None, foldings: 0, parted: 0, some_parted };
     search.groups(0, 0);
-    let smallest = search.smallest.expect("every stack has a folding");
-    Enumerated { table: search.front.table(), smallest, foldings: search.foldings }
+    let Search { front, smallest, foldings, parted, some_parted, .. } = search;
+    let smallest = smallest.expect("every stack has a folding");
+    Enumerated { table: front.table(), smallest, foldings, parted, some_parted }
 }
 
 impl Search<'_> {
     /// All ways to fold the components from `first` on, the next group having this number.
     fn groups(&mut self, first: usize, number: u32) {
         if first == self.stack.len() {
-            self.foldings += 1;
-            let one = outline(self.stack, self.nested, &self.folding).expect("only legal foldings are tried");
-            self.smallest = Some(self.smallest.map_or(one, |best| smaller(best, one)));
-            return self.front.add(one);
+            return self.measure();
         }
         for end in first + 1..=self.stack.len() {
             let fold_from = if self.nested { first + 1 } else { end };
             for right in fold_from..=end {
                 self.start_rows(number, first, right, end, self.chain(first, right, end));
             }
+        }
+    }
+
+    fn measure(&mut self) {
+        let Some(one) = outline(self.stack, self.nested, &self.folding) else { return self.keep_parted() };
+        self.foldings += 1;
+        self.smallest = Some(self.smallest.map_or(one, |best| smaller(best, one)));
+        self.front.add(one);
+    }
+
+    /// Keeps fewer and fewer, so that they come from all over the enumeration and stay few.
+    fn keep_parted(&mut self) {
+        self.parted += 1;
+        if self.parted.is_power_of_two() {
+            let unmarked: Vec<Component> = self.stack.iter().map(|c| Component { mark: 0, ..*c }).collect();
+            assert!(outline(&unmarked, self.nested, &self.folding).is_some(), "only a mark can make a folding broken");
+            self.some_parted.push(self.folding.clone());
         }
     }
 

@@ -6,18 +6,24 @@ use crate::front::Aim::{self, SmallestArea, Within};
 use crate::front::Toward::{Height, Width};
 use crate::measure::Outline;
 use crate::rules::{Answer, WORK};
-use crate::stack::{file, Component};
+use crate::stack::{file, versions, Component};
 
 fn stack(sizes: &[(u32, u32)]) -> Vec<Component> {
-    sizes.iter().map(|&(height, width)| Component { height, width, gap: 0 }).collect()
+    sizes.iter().map(|&(height, width)| Component { height, width, gap: 0, mark: 0 }).collect()
 }
 
 fn equal(count: usize, height: u32) -> Vec<Component> {
     stack(&vec![(height, 1); count])
 }
 
+/// The answer for the file of version 1, which must be that for version 2 without marks.
 fn fold(caller: &mut Caller, stack: &[Component], nested: bool, aim: Aim) -> Compared<Answer<Outline>> {
-    caller.fold(&FoldCall { file: &file(stack), nested, aim, room: 3 * stack.len(), work: WORK })
+    let mut fold = |version: u16| {
+        caller.fold(&FoldCall { file: &file(stack, version), nested, aim, room: 3 * stack.len(), work: WORK })
+    };
+    let (first, second) = (fold(1)?, fold(2)?);
+    same("the fold in version 2", second, first)?;
+    Ok(first)
 }
 
 fn outline(width: u32, height: u32) -> Outline {
@@ -25,8 +31,11 @@ fn outline(width: u32, height: u32) -> Outline {
 }
 
 fn table(caller: &mut Caller, stack: &[Component], nested: bool, lines: &[(u32, u32)]) -> Compared<()> {
-    let own = lines.iter().map(|&(width, height)| outline(width, height)).collect();
-    same("a known table", caller.table(&file(stack), nested, 4096, WORK)?, Ok(own))
+    let own: Vec<Outline> = lines.iter().map(|&(width, height)| outline(width, height)).collect();
+    for &version in versions(stack) {
+        same("a known table", caller.table(&file(stack, version), nested, 4096, WORK)?, Ok(own.clone()))?;
+    }
+    Ok(())
 }
 
 /// The smallest area, apart and nested. Both the library and the foldings one by one must have it. D and F nested have
@@ -94,11 +103,11 @@ pub fn edges(caller: &mut Caller) -> Compared<()> {
             same("the largest stack's area", fold(caller, &largest, nested, SmallestArea)?, Ok(unfolded))?;
         }
     }
-    for count in [64, 65, 256, 257] {
-        let bytes = file(&equal(count, 4000));
+    for (count, version) in [64, 65, 256, 257].into_iter().flat_map(|count| [(count, 1), (count, 2)]) {
+        let bytes = file(&equal(count, 4000), version);
         caller.check(&bytes, true)?;
         caller.check(&bytes, false)?;
-        caller.read(&bytes, [count; 3])?;
+        caller.read(&bytes, [count; 4])?;
         caller.lookup(&bytes, count)?;
     }
     Ok(())

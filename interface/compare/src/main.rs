@@ -5,6 +5,7 @@ mod damage;
 mod enumerate;
 mod front;
 mod known;
+mod marks;
 mod measure;
 mod rng;
 mod rows;
@@ -16,11 +17,12 @@ mod stacks;
 use calls::{same, Caller, Compared};
 use front::smallest;
 use rng::Rng;
-use stack::{random, Component, SHAPES};
+use stack::{random, Component, MARKS, SHAPES};
 use std::{env, process::ExitCode, time::Instant};
 
 const ENUMERATED: usize = 4_000;
 const SEARCHED: usize = 18_000;
+const MARKED: usize = 400;
 const SCALED: usize = 3_000;
 const LONG: usize = 60;
 const LONGEST: usize = 28;
@@ -52,51 +54,40 @@ fn main() -> ExitCode {
     ExitCode::SUCCESS
 }
 
+/// Each compares one part and tells what that was.
+const PARTS: [fn(&mut Caller) -> Compared<String>; 10] =
+    [known, damaged, measured, enumerated, searched, marked, scaled, long, longest, many_lines];
+
 fn all(caller: &mut Caller) -> Compared<()> {
     let start = Instant::now();
-    let part = |name: &str, caller: &Caller| {
+    for part in PARTS {
+        let what = part(caller)?;
         let calls: u64 = caller.answers.iter().sum();
-        println!("{name}; so far {calls} calls, {:.1} s", start.elapsed().as_secs_f64());
-    };
-    known::stacks(caller)?;
-    known::edges(caller)?;
-    part("known stacks and edges", caller);
-    damaged(caller)?;
-    part(&format!("{DAMAGED} damaged files, foldings, limits and buffers"), caller);
-    measured(caller)?;
-    part(
-        &format!(
-            "{MEASURED} foldings of 1 to 64 components nested, 1 to 256 apart, measured row by row and chosen from"
-        ),
-        caller,
-    );
-    let foldings = enumerated(caller)?;
-    part(&format!("{ENUMERATED} stacks of 1 to 5 components, {foldings} foldings enumerated"), caller);
-    searched(caller)?;
-    part(&format!("{SEARCHED} stacks of 1 to 12 components, searched row by row"), caller);
-    scaled(caller)?;
-    part(&format!("{SCALED} stacks of 1 to 8 components, scaled up to 4,000"), caller);
-    let lines = long(caller)?;
-    part(&format!("{LONG} stacks of 13 to 256 components, {lines} outlines against both folds"), caller);
-    let lines = longest(caller)?;
-    part(&format!("{LONGEST} nested stacks of 48 to 64 components, {lines} outlines against both folds"), caller);
-    many_lines(caller)?;
-    part(&format!("tables of {NESTED_WAIT} and more outlines nested, {APART_WAIT} to {MOST_LINES} apart"), caller);
+        println!("{what}; so far {calls} calls, {:.1} s", start.elapsed().as_secs_f64());
+    }
     for (number, count) in caller.answers.iter().enumerate() {
         println!("  {count:>9} times {}", if number == 0 { "a result".into() } else { format!("refusal {number}") });
     }
     Ok(())
 }
 
+fn known(caller: &mut Caller) -> Compared<String> {
+    known::stacks(caller)?;
+    known::edges(caller)?;
+    marks::all(caller)?;
+    Ok("known stacks and edges, and fold marks".into())
+}
+
 /// Adds to a difference the stack that shows it.
 fn told(stack: &[Component], nested: bool) -> impl FnOnce(String) -> String {
-    let sizes = stack.iter().map(|c| format!("{}/{}/{}", c.height, c.width, c.gap)).collect::<Vec<_>>().join(" ");
-    move |what| format!("{what}\n{} stack, height/width/gap: {sizes}", if nested { "nested" } else { "apart" })
+    let numbers = |c: &Component| format!("{}/{}/{}/{}", c.height, c.width, c.gap, c.mark);
+    let stack = stack.iter().map(numbers).collect::<Vec<_>>().join(" ");
+    move |what| format!("{what}\n{} stack, height/width/gap/mark: {stack}", if nested { "nested" } else { "apart" })
 }
 
 /// Groups of any length. Small numbers let components on both sides start in one row, or one end where another starts; a
 /// quarter of the stacks has large ones, and a quarter of the foldings stands high.
-fn measured(caller: &mut Caller) -> Compared<()> {
+fn measured(caller: &mut Caller) -> Compared<String> {
     for at in 0..MEASURED {
         let nested = at % 2 == 0;
         let count = caller.rng.within(1, if nested { 64 } else { 256 }) as usize;
@@ -106,13 +97,14 @@ fn measured(caller: &mut Caller) -> Compared<()> {
         };
         let folding = long_folding(caller, &stack, nested);
         let other = long_folding(caller, &stack, nested);
-        let file = stack::file(&stack);
+        let file = stack::some_file(&mut caller.rng, &stack);
         same("the folding is legal", measure::outline(&stack, nested, &folding).is_some(), true)
             .and_then(|()| caller.measure(&file, nested, &folding))
             .and_then(|()| caller.choose(&file, nested, &folding, &other))
             .map_err(told(&stack, nested))?;
     }
-    Ok(())
+    let what = "foldings of 1 to 64 components nested, 1 to 256 apart, measured row by row and chosen from";
+    Ok(format!("{MEASURED} {what}"))
 }
 
 fn long_folding(caller: &mut Caller, stack: &[Component], nested: bool) -> Vec<u32> {
@@ -122,22 +114,25 @@ fn long_folding(caller: &mut Caller, stack: &[Component], nested: bool) -> Vec<u
     damage::random_folding(&mut caller.rng, stack, nested, stack.len(), lift)
 }
 
-fn enumerated(caller: &mut Caller) -> Compared<u64> {
-    let mut foldings = 0;
+fn enumerated(caller: &mut Caller) -> Compared<String> {
+    let (mut foldings, mut parted) = (0, 0);
     for at in 0..ENUMERATED {
         let stack = random(&mut caller.rng, 1 + at % 5, SHAPES[at / 5 % SHAPES.len()]);
         stacks::files(caller, &stack).map_err(told(&stack, false))?;
         for nested in [false, true] {
             let spare = if stack.len() <= 3 { 2 } else { 0 };
             let own = enumerate::all(&stack, nested, spare);
-            foldings += own.foldings;
-            stacks::against(caller, &stack, nested, &own.table, own.smallest).map_err(told(&stack, nested))?;
+            (foldings, parted) = (foldings + own.foldings, parted + own.parted);
+            stacks::against(caller, &stack, nested, &own.table, own.smallest)
+                .and_then(|()| stacks::broken(caller, &stack, nested, &own.some_parted))
+                .map_err(told(&stack, nested))?;
         }
     }
-    Ok(foldings)
+    let parting = format!("{parted} that part barred neighbours");
+    Ok(format!("{ENUMERATED} stacks of 1 to 5 components, {foldings} foldings enumerated and {parting}"))
 }
 
-fn searched(caller: &mut Caller) -> Compared<()> {
+fn searched(caller: &mut Caller) -> Compared<String> {
     for at in 0..SEARCHED {
         let stack = random(&mut caller.rng, 1 + at % 12, SHAPES[at / 12 % SHAPES.len()]);
         for nested in [false, true] {
@@ -145,12 +140,26 @@ fn searched(caller: &mut Caller) -> Compared<()> {
             stacks::against(caller, &stack, nested, &own, smallest(&own)).map_err(told(&stack, nested))?;
         }
     }
-    Ok(())
+    Ok(format!("{SEARCHED} stacks of 1 to 12 components, searched row by row"))
+}
+
+/// Long groups and many marks: the numbers are small enough to search rows, and marks keep long runs together.
+fn marked(caller: &mut Caller) -> Compared<String> {
+    for at in 0..MARKED {
+        let nested = at % 2 == 0;
+        let count = caller.rng.within(13, if nested { 64 } else { 256 }) as usize;
+        let mut stack = random(&mut caller.rng, count, SHAPES[at / 2 % SHAPES.len()]);
+        stack::mark(&mut caller.rng, &mut stack, MARKS[at / 2 % MARKS.len()]);
+        let own = rows::table(&stack, nested);
+        stacks::against(caller, &stack, nested, &own, smallest(&own)).map_err(told(&stack, nested))?;
+    }
+    let what = "stacks of 13 to 64 components nested, 13 to 256 apart, most with marks, searched row by row";
+    Ok(format!("{MARKED} {what}"))
 }
 
 /// Multiplying all rows by one number and all slices by another multiplies the table's: which components may stand side by
 /// side does not change, and the least height is a sum of heights and gaps. So large numbers need no longer search.
-fn scaled(caller: &mut Caller) -> Compared<()> {
+fn scaled(caller: &mut Caller) -> Compared<String> {
     for at in 0..SCALED {
         let small = random(&mut caller.rng, 1 + at % 8, SHAPES[at / 8 % SHAPES.len()]);
         let tallest = small.iter().map(|c| c.height.max(c.gap)).max().unwrap();
@@ -164,11 +173,11 @@ fn scaled(caller: &mut Caller) -> Compared<()> {
             stacks::against(caller, &stack, nested, &own, smallest(&own)).map_err(told(&stack, nested))?;
         }
     }
-    Ok(())
+    Ok(format!("{SCALED} stacks of 1 to 8 components, scaled up to 4,000"))
 }
 
 /// Stacks that no slow implementation reaches: the table, the folds and the smallest area against each other.
-fn long(caller: &mut Caller) -> Compared<usize> {
+fn long(caller: &mut Caller) -> Compared<String> {
     let mut lines = 0;
     for at in 0..LONG {
         let nested = at % 2 == 0;
@@ -179,11 +188,11 @@ fn long(caller: &mut Caller) -> Compared<usize> {
         lines +=
             stacks::with_itself(caller, &stack, nested, stacks::ROOM, stacks::LINES).map_err(told(&stack, nested))?;
     }
-    Ok(lines)
+    Ok(format!("{LONG} stacks of 13 to 256 components, {lines} outlines against both folds"))
 }
 
 /// The longest nested stacks, of all shapes, half of them with large numbers, at more lines.
-fn longest(caller: &mut Caller) -> Compared<usize> {
+fn longest(caller: &mut Caller) -> Compared<String> {
     let mut lines = 0;
     for at in 0..LONGEST {
         let count = if at < 2 { 64 } else { caller.rng.within(48, 64) } as usize;
@@ -194,13 +203,13 @@ fn longest(caller: &mut Caller) -> Compared<usize> {
         };
         lines += stacks::with_itself(caller, &stack, true, stacks::ROOM, LINES).map_err(told(&stack, true))?;
     }
-    Ok(lines)
+    Ok(format!("{LONGEST} nested stacks of 48 to 64 components, {lines} outlines against both folds"))
 }
 
 /// Tables with more outlines than wait in the work buffer before they are copied: as many as just wait, one more, and for
 /// apart stacks many more. The numbers were counted outside the library. Nested ones of this length are dear, so each is
 /// listed once, in a buffer that it fills or in a longer one, and refused once.
-fn many_lines(caller: &mut Caller) -> Compared<()> {
+fn many_lines(caller: &mut Caller) -> Compared<String> {
     let nested = |seed: u64| stack::nested_ladder(&mut Rng(seed), 33, 27);
     let apart = |coarse: u32, fine: u32, second: u32| stack::apart_ladder(&mut Rng(1), coarse, fine, second);
     let stacks = [
@@ -214,7 +223,7 @@ fn many_lines(caller: &mut Caller) -> Compared<()> {
     for (nested, stack, count, spare) in stacks {
         full(caller, &stack, nested, count, spare).map_err(told(&stack, nested))?;
     }
-    Ok(())
+    Ok(format!("tables of {NESTED_WAIT} and more outlines nested, {APART_WAIT} to {MOST_LINES} apart"))
 }
 
 /// A table of so many outlines in a buffer with so many numbers to spare, and in one that is too short.
@@ -231,11 +240,14 @@ fn noisy(caller: &mut Caller, count: usize) -> Vec<Component> {
         height: rng.within(1, 4000),
         width: rng.within(1, 4000),
         gap: if at + 1 < count && rng.one_in(2) { rng.within(0, 4000) } else { 0 },
+        mark: 0,
     };
-    (0..count).map(component).collect()
+    let mut stack: Vec<Component> = (0..count).map(component).collect();
+    stack::mark_some(rng, &mut stack);
+    stack
 }
 
-fn damaged(caller: &mut Caller) -> Compared<()> {
+fn damaged(caller: &mut Caller) -> Compared<String> {
     for at in 0..DAMAGED {
         let call = damage::CALLS[at % damage::CALLS.len()];
         let nested = caller.rng.one_in(2);
@@ -243,5 +255,5 @@ fn damaged(caller: &mut Caller) -> Compared<()> {
         damage::case(caller, call, &file, nested)
             .map_err(|what| format!("{what}\n{call:?}, nested {nested}, damaged case {at}, file {file:02x?}"))?;
     }
-    Ok(())
+    Ok(format!("{DAMAGED} damaged files, foldings, limits and buffers"))
 }

@@ -1,4 +1,4 @@
-//! Document 01's rules for a legal folding and its outline, group by group and row by row.
+//! Document 01's rules for a legal folding and its outline, group by group and row by row, and ticket 3's rule of marks.
 
 use crate::stack::Component;
 
@@ -36,6 +36,9 @@ impl Placed {
 pub fn outline(stack: &[Component], nested: bool, folding: &[u32]) -> Option<Outline> {
     let place = |(c, p): (&Component, &[u32])| Placed { component: *c, group: p[0], side: p[1], start: p[2] };
     let mut rest: Vec<Placed> = stack.iter().zip(folding.chunks_exact(3)).map(place).collect();
+    if rest.windows(2).any(|two| parted(two[0], two[1])) {
+        return None;
+    }
     let mut layout = Outline { width: 0, height: 0 };
     let (mut number, mut gap_before) = (0, 0);
     while !rest.is_empty() {
@@ -48,6 +51,11 @@ pub fn outline(stack: &[Component], nested: bool, folding: &[u32]) -> Option<Out
         number += 1;
     }
     Some(layout)
+}
+
+/// Where a mark is 1, the component and its successor have the same group and side.
+fn parted(one: Placed, next: Placed) -> bool {
+    one.component.mark == 1 && (one.group, one.side) != (next.group, next.side)
 }
 
 /// The two sides of a legal group; nothing for a broken one, as an empty one is.

@@ -3,7 +3,8 @@
 //! A fold's two sides are filled row by row from the fold up. A state says how many rows of each side have been laid; the
 //! next row takes the next row of the left side, of the right side, or of both. A side may rest only between two
 //! components. Rows that take neither are left out: without them all above moves down. For each state all unbeaten pairs
-//! of rows used and greatest sum are kept, so no width is fixed in advance and nothing is halved.
+//! of rows used and greatest sum are kept, so no width is fixed in advance and nothing is halved. Marks leave out groups
+//! by where they end and fold; how two sides may be filled does not depend on them.
 
 use crate::front::Front;
 use crate::measure::Outline;
@@ -45,7 +46,7 @@ fn groups(stack: &[Component], nested: bool) -> Vec<Vec<Front>> {
     let n = stack.len();
     let mut groups = vec![vec![Front::default(); n + 1]; n];
     for first in 0..n {
-        for end in first + 1..=n {
+        for end in (first + 1..=n).filter(|&end| may_part(stack, end)) {
             let group = &stack[first..end];
             let (before, after) = gaps(stack, first, end);
             let width = group.iter().map(|c| c.width).max().unwrap();
@@ -53,9 +54,14 @@ fn groups(stack: &[Component], nested: bool) -> Vec<Vec<Front>> {
         }
     }
     if nested {
-        (1..n).for_each(|right| folded(stack, right, &mut groups));
+        (1..n).filter(|&right| may_part(stack, right)).for_each(|right| folded(stack, right, &mut groups));
     }
     groups
+}
+
+/// Whether the components before `at` may have another group or side than those from there on.
+fn may_part(stack: &[Component], at: usize) -> bool {
+    stack[at - 1].mark == 0
 }
 
 /// The gaps before and after a group.
@@ -69,7 +75,7 @@ fn folded(stack: &[Component], right: usize, groups: &mut [Vec<Front>]) {
     let right_rows = side(stack[right..].iter());
     let states = fill(&left_rows, &right_rows);
     for first in 0..right {
-        for end in right + 1..=stack.len() {
+        for end in (right + 1..=stack.len()).filter(|&end| may_part(stack, end)) {
             let (before, after) = gaps(stack, first, end);
             let routing = before.max(after) + stack[right - 1].gap;
             let state = &states[total(&stack[first..right]) as usize][total(&stack[right..end]) as usize];

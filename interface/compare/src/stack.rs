@@ -8,22 +8,70 @@ pub struct Component {
     pub height: u32,
     pub width: u32,
     pub gap: u32,
+    /// 1 where a fold after it is barred.
+    pub mark: u32,
 }
 
-/// The stack file, whatever its numbers: each is cut to 16 bits.
-pub fn file(stack: &[Component]) -> Vec<u8> {
-    let mut file = b"STK\x01\x00".to_vec();
+/// The stack file of that version, whatever its numbers: each is cut to 16 bits. Version 1 leaves out the marks.
+pub fn file(stack: &[Component], version: u16) -> Vec<u8> {
+    let mut file = b"STK".to_vec();
+    file.extend(version.to_le_bytes());
     file.extend((stack.len() as u16).to_le_bytes());
+    let numbers = if version == 1 { 3 } else { 4 };
     for c in stack {
-        for number in [c.height, c.width, c.gap] {
-            file.extend((number as u16).to_le_bytes());
+        for number in &[c.height, c.width, c.gap, c.mark][..numbers] {
+            file.extend((*number as u16).to_le_bytes());
         }
     }
     file
 }
 
+/// The versions that can hold the stack.
+pub fn versions(stack: &[Component]) -> &'static [u16] {
+    match stack.iter().all(|c| c.mark == 0) {
+        true => &[1, 2],
+        false => &[2],
+    }
+}
+
+/// The stack's file in one of its versions.
+pub fn some_file(rng: &mut Rng, stack: &[Component]) -> Vec<u8> {
+    file(stack, rng.pick(versions(stack)))
+}
+
 fn of_size([height, width, gap]: [u32; 3]) -> Component {
-    Component { height, width, gap }
+    Component { height, width, gap, mark: 0 }
+}
+
+/// How many of a stack's folds are barred.
+#[derive(Clone, Copy, Debug)]
+pub enum Marks {
+    None,
+    Few,
+    Many,
+    AllButTheLast,
+}
+
+/// Two stacks in five stay without marks: only those have files of version 1.
+pub const MARKS: [Marks; 5] = [Marks::Few, Marks::None, Marks::Many, Marks::None, Marks::AllButTheLast];
+
+/// Bars some of the stack's folds, or none.
+pub fn mark_some(rng: &mut Rng, stack: &mut [Component]) {
+    let marks = rng.pick(&MARKS);
+    mark(rng, stack, marks);
+}
+
+pub fn mark(rng: &mut Rng, stack: &mut [Component], marks: Marks) {
+    let last = stack.len() - 1;
+    for c in &mut stack[..last] {
+        let barred = match marks {
+            Marks::None => false,
+            Marks::Few => rng.one_in(6),
+            Marks::Many => !rng.one_in(4),
+            Marks::AllButTheLast => true,
+        };
+        c.mark = barred.into();
+    }
 }
 
 pub fn total(stack: &[Component]) -> u32 {
@@ -57,13 +105,14 @@ pub fn random(rng: &mut Rng, count: usize, shape: Shape) -> Vec<Component> {
         stack.iter_mut().for_each(|c| c.gap += rng.below(2) as u32);
     }
     stack[count - 1].gap = 0;
+    mark_some(rng, &mut stack);
     stack
 }
 
 fn one(rng: &mut Rng, shape: Shape, height: u32, width: u32) -> Component {
-    let mut c = Component { height: rng.within(1, 4), width: rng.within(1, 6), gap: 0 };
+    let mut c = of_size([rng.within(1, 4), rng.within(1, 6), 0]);
     match shape {
-        Shape::Tiny => c = Component { height: rng.within(1, 2), width: rng.within(1, 3), gap: 0 },
+        Shape::Tiny => c = of_size([rng.within(1, 2), rng.within(1, 3), 0]),
         Shape::Mixed | Shape::Tall => {}
         Shape::Gaps => c.gap = rng.within(0, 5),
         Shape::EqualHeights => c.height = height,
@@ -75,13 +124,15 @@ fn one(rng: &mut Rng, shape: Shape, height: u32, width: u32) -> Component {
 
 /// The same stack with rows and slices multiplied, for numbers up to 4,000.
 pub fn scaled(stack: &[Component], rows: u32, slices: u32) -> Vec<Component> {
-    let scale = |c: &Component| Component { height: c.height * rows, width: c.width * slices, gap: c.gap * rows };
+    let scale = |c: &Component| Component { height: c.height * rows, width: c.width * slices, gap: c.gap * rows, ..*c };
     stack.iter().map(scale).collect()
 }
 
 /// Numbers over the whole ranges.
 pub fn large(rng: &mut Rng, count: usize, shape: shapes::Shape) -> Vec<Component> {
-    shapes::sizes(rng, count, shape).into_iter().map(of_size).collect()
+    let mut stack: Vec<Component> = shapes::sizes(rng, count, shape).into_iter().map(of_size).collect();
+    mark_some(rng, &mut stack);
+    stack
 }
 
 /// A nested stack with about a line for each two numbers up to `coarse` and `fine`: a wide and high component between two

@@ -3,8 +3,8 @@
 use crate::calls::{same, Caller, Compared, FoldCall};
 use crate::front::{best, smallest, Aim, Toward};
 use crate::measure::Outline;
-use crate::rules::{Answer, LAST_LIMIT, WORK};
-use crate::stack::{file, Component};
+use crate::rules::{self, Answer, LAST_LIMIT, WORK};
+use crate::stack::{file, some_file, versions, Component};
 
 /// Lines of a table that the folds are held to, where stacks are many.
 pub const LINES: usize = 3;
@@ -12,22 +12,30 @@ pub const LINES: usize = 3;
 /// Numbers that hold every table of a stack here.
 pub const ROOM: usize = 1 << 15;
 
-/// Reading, looking up and writing a stack's file.
+/// Reading and looking up a stack's files, of both versions where there are two, and writing it: the bytes written are
+/// those of the version 2 file, which reads back to the stack.
 pub fn files(caller: &mut Caller, stack: &[Component]) -> Compared<()> {
-    let (bytes, n) = (file(stack), stack.len());
-    caller.check(&bytes, false)?;
-    caller.check(&bytes, true)?;
-    caller.read(&bytes, [n, n + 1, n + 2])?;
-    (0..=n + 1).try_for_each(|number| caller.lookup(&bytes, number))?;
+    let (n, spare) = (stack.len(), caller.rng.below(4));
+    for &version in versions(stack) {
+        let bytes = file(stack, version);
+        caller.check(&bytes, false)?;
+        caller.check(&bytes, true)?;
+        caller.read(&bytes, [n, n + 1, n + 2, n + spare])?;
+        let mut one_short = [n; 4];
+        one_short[caller.rng.below(4)] -= 1;
+        caller.read(&bytes, one_short)?;
+        (0..=n + 1).try_for_each(|number| caller.lookup(&bytes, number))?;
+    }
     let list = |of: fn(&Component) -> u32| stack.iter().map(|c| of(c) as u16).collect::<Vec<u16>>();
-    caller.write([&list(|c| c.height), &list(|c| c.width), &list(|c| c.gap)], bytes.len() + 3)
+    let lists = [list(|c| c.height), list(|c| c.width), list(|c| c.gap), list(|c| c.mark)];
+    caller.write(lists.each_ref().map(|list| &list[..]), 7 + 8 * n + spare)
 }
 
 /// The table and the folds of one kind, against the own table, and the smallest area against the own one.
 pub fn against(
     caller: &mut Caller, stack: &[Component], nested: bool, own: &[Outline], least: Outline,
 ) -> Compared<()> {
-    let bytes = file(stack);
+    let bytes = some_file(&mut caller.rng, stack);
     let spare = caller.rng.below(4);
     let listed = caller.table(&bytes, nested, 2 * own.len() + spare, WORK + spare)?;
     same("the table", listed, Ok(own.to_vec()))?;
@@ -37,12 +45,23 @@ pub fn against(
     listed.smallest(caller, least)
 }
 
+/// Foldings that measuring must refuse with 10, and choosing from too.
+pub fn broken(caller: &mut Caller, stack: &[Component], nested: bool, foldings: &[Vec<u32>]) -> Compared<()> {
+    let bytes = file(stack, 2);
+    for folding in foldings {
+        same("the own rules", rules::measure(&bytes, nested, folding), Err(10))?;
+        caller.measure(&bytes, nested, folding)?;
+        caller.choose(&bytes, nested, folding, &foldings[0])?;
+    }
+    Ok(())
+}
+
 /// The same for stacks with no own table: the library's table, in a buffer of so many numbers, must agree with its own
 /// folds at so many lines, and with its smallest area. Gives the number of its outlines.
 pub fn with_itself(
     caller: &mut Caller, stack: &[Component], nested: bool, room: usize, lines: usize,
 ) -> Compared<usize> {
-    let bytes = file(stack);
+    let bytes = some_file(&mut caller.rng, stack);
     let table = match caller.table(&bytes, nested, room, WORK)? {
         Ok(table) => table,
         Err(number) => return Err(format!("a valid stack's table is refused with {number}")),
@@ -56,7 +75,8 @@ pub fn with_itself(
 /// A table that needs a buffer of so many numbers, in one that has room for one line less.
 pub fn short(caller: &mut Caller, stack: &[Component], nested: bool, full: usize) -> Compared<()> {
     let less = 1 + caller.rng.below(2);
-    let short = caller.table(&file(stack), nested, full - less, WORK)?;
+    let bytes = some_file(&mut caller.rng, stack);
+    let short = caller.table(&bytes, nested, full - less, WORK)?;
     same("a table with room for one line less", short, Err(8))
 }
 

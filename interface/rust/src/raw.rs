@@ -42,12 +42,12 @@ mod c {
         pub fn folds_check(file: *const u8, file_len: usize, nested: bool) -> Count;
         pub fn folds_read(
             file: *const u8, file_len: usize, heights: *mut u16, heights_len: usize, widths: *mut u16,
-            widths_len: usize, gaps: *mut u16, gaps_len: usize,
+            widths_len: usize, gaps: *mut u16, gaps_len: usize, marks: *mut u16, marks_len: usize,
         ) -> Count;
         pub fn folds_lookup(file: *const u8, file_len: usize, number: usize) -> Part;
         pub fn folds_write(
             heights: *const u16, heights_len: usize, widths: *const u16, widths_len: usize, gaps: *const u16,
-            gaps_len: usize, file: *mut u8, file_len: usize,
+            gaps_len: usize, marks: *const u16, marks_len: usize, file: *mut u8, file_len: usize,
         ) -> Count;
         pub fn folds_measure(
             file: *const u8, file_len: usize, nested: bool, placements: *const u32, placements_len: usize,
@@ -82,7 +82,7 @@ pub fn check(file: &[u8], nested: bool) -> Count {
     unsafe { c::folds_check(file.as_ptr(), file.len(), nested) }
 }
 
-pub fn read(file: &[u8], heights: &mut [u16], widths: &mut [u16], gaps: &mut [u16]) -> Count {
+pub fn read(file: &[u8], heights: &mut [u16], widths: &mut [u16], gaps: &mut [u16], marks: &mut [u16]) -> Count {
     unsafe {
         c::folds_read(
             file.as_ptr(),
@@ -93,6 +93,8 @@ pub fn read(file: &[u8], heights: &mut [u16], widths: &mut [u16], gaps: &mut [u1
             widths.len(),
             gaps.as_mut_ptr(),
             gaps.len(),
+            marks.as_mut_ptr(),
+            marks.len(),
         )
     }
 }
@@ -101,7 +103,7 @@ pub fn lookup(file: &[u8], number: usize) -> Part {
     unsafe { c::folds_lookup(file.as_ptr(), file.len(), number) }
 }
 
-pub fn write(heights: &[u16], widths: &[u16], gaps: &[u16], file: &mut [u8]) -> Count {
+pub fn write(heights: &[u16], widths: &[u16], gaps: &[u16], marks: &[u16], file: &mut [u8]) -> Count {
     unsafe {
         c::folds_write(
             heights.as_ptr(),
@@ -110,6 +112,8 @@ pub fn write(heights: &[u16], widths: &[u16], gaps: &[u16], file: &mut [u8]) -> 
             widths.len(),
             gaps.as_ptr(),
             gaps.len(),
+            marks.as_ptr(),
+            marks.len(),
             file.as_mut_ptr(),
             file.len(),
         )

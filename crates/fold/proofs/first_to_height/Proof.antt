@@ -1,6 +1,6 @@
 use Rattle.folding.specs.Calls.{measuredAnswer}
 use lib.ListN.{take}
-use Rattle.terms.specs.Component.{componentsIn}
+use Rattle.terms.specs.Seams.{componentsIn}
 use Rattle.fold.specs.Calls.{byHeight}
 use mathlib.Core.Path.{ap}
 use Rattle.terms.specs.Answer.{countAnswer}
@@ -29,7 +29,7 @@ slice-aggregate-write-low-2 : tie.Need-slice-aggregate-write-low-2
 slice-aggregate-write-low-2 c = sym (length-take-le _ _ (c .before .before .before .before .before .before .before .before .before .before .pre .widths-long))
 
 slice-aggregate-write-low-3 : tie.Need-slice-aggregate-write-low-3
-slice-aggregate-write-low-3 c = sym (length-take-le _ _ (c .before .before .before .before .before .before .before .before .before .before .before .pre .gaps-long))
+slice-aggregate-write-low-3 c = sym (length-take-le _ _ (c .before .before .before .before .before .before .before .before .before .before .before .pre .seams-long))
 
 write-low-requires : tie.Need-write-low-requires
 write-low-requires c κs = let a = c .before .before .before .before .before .before .before .before .before .before .before .before .before .args in let q = search-asks (a .kind) (a .n) (a .limit .0) (now (a .h)) (now (a .w)) (now (a .g)) (now (a .out)) (now (a .work)) (c .before .before .before .before .before .before .before .before .before .before .before .before .before .pre) _ (sym (c .before .before .before .before .before .before .before .check-lent .ensures) ∙ ap countAnswer (c .before .before .before .before .before .enum-told .given .1)) in (q .0, omega (arith, q .1), q .2)

@@ -3,7 +3,7 @@ use mathlib.Core.Path.{ap}
 use Rattle.terms.specs.Answer.{countAnswer}
 use lib.Seq.{length-take-le}
 use lib.ListN.{take}
-use Rattle.terms.specs.Component.{componentsIn}
+use Rattle.terms.specs.Seams.{componentsIn}
 use Rattle.fold.specs.Calls.{byWidth}
 use Rattle.folding.specs.Calls.{measuredAnswer}
 use mathlib.Core.Path.{sym, _∙_}
@@ -28,7 +28,7 @@ slice-aggregate-write-slim-2 : tie.Need-slice-aggregate-write-slim-2
 slice-aggregate-write-slim-2 c = sym (length-take-le _ _ (c .before .before .before .before .before .before .before .before .before .before .pre .widths-long))
 
 slice-aggregate-write-slim-3 : tie.Need-slice-aggregate-write-slim-3
-slice-aggregate-write-slim-3 c = sym (length-take-le _ _ (c .before .before .before .before .before .before .before .before .before .before .before .pre .gaps-long))
+slice-aggregate-write-slim-3 c = sym (length-take-le _ _ (c .before .before .before .before .before .before .before .before .before .before .before .pre .seams-long))
 
 write-slim-requires : tie.Need-write-slim-requires
 write-slim-requires c κs = let a = c .before .before .before .before .before .before .before .before .before .before .before .before .before .args in search-asks (a .kind) (a .n) (a .limit .0) (now (a .h)) (now (a .w)) (now (a .g)) (now (a .out)) (now (a .work)) (c .before .before .before .before .before .before .before .before .before .before .before .before .before .pre) _ (sym (c .before .before .before .before .before .before .before .check-lent .ensures) ∙ ap countAnswer (c .before .before .before .before .before .enum-told .given .1))

@@ -11,17 +11,17 @@ use borrow.Author.Needs.{needs}
 use Rattle.fold.proofs.to_width.Statement.{statement}
 use Rattle.fold.proofs.to_width.Tie as tie
 
-slice-aggregate-read-as : tie.Need-slice-aggregate-read-as
-slice-aggregate-read-as c = search needs
+slice-aggregate-read-seams : tie.Need-slice-aggregate-read-seams
+slice-aggregate-read-seams c = search needs
 
-slice-aggregate-read-as-2 : tie.Need-slice-aggregate-read-as-2
-slice-aggregate-read-as-2 c = search needs
+slice-aggregate-read-seams-2 : tie.Need-slice-aggregate-read-seams-2
+slice-aggregate-read-seams-2 c = search needs
 
-slice-aggregate-read-as-3 : tie.Need-slice-aggregate-read-as-3
-slice-aggregate-read-as-3 c = search needs
+slice-aggregate-read-seams-3 : tie.Need-slice-aggregate-read-seams-3
+slice-aggregate-read-seams-3 c = search needs
 
-read-as-requires : tie.Need-read-as-requires
-read-as-requires c κs = search needs
+read-seams-requires : tie.Need-read-seams-requires
+read-seams-requires c κs = search needs
 
 enum-known-k : tie.Need-enum-known-k
 enum-known-k c = search needs
@@ -39,10 +39,10 @@ slice-aggregate-first-to-width-3 : tie.Need-slice-aggregate-first-to-width-3
 slice-aggregate-first-to-width-3 c = search needs
 
 first-to-width-requires : tie.Need-first-to-width-requires
-first-to-width-requires c κs = first-held (read-held _ _ _ _ _ refl refl refl (c .before .before .before .before .before .before .before .before .before .before .before .read-as .ensures) _ (ap countAnswer (c .before .before .before .before .before .before .n .given .1))) (c .before .before .before .before .before .before .before .before .before .before .before .read-as .kept .1 .1 .0) (c .before .before .before .before .before .before .before .before .before .before .before .read-as .kept .1 .1 .1 .0) (c .before .before .before .before .before .before .before .before .before .before .before .read-as .kept .1 .1 .1 .1 .0)
+first-to-width-requires c κs = first-held (read-held _ _ _ _ _ refl refl refl (c .before .before .before .before .before .before .before .before .before .before .before .read-seams .ensures) _ (ap countAnswer (c .before .before .before .before .before .before .n .given .1))) (c .before .before .before .before .before .before .before .before .before .before .before .read-seams .kept .1 .1 .0) (c .before .before .before .before .before .before .before .before .before .before .before .read-seams .kept .1 .1 .1 .0) (c .before .before .before .before .before .before .before .before .before .before .before .read-seams .kept .1 .1 .1 .1 .0)
 
 returns : tie.Need-returns
-returns c = let a = c .before .before .before .before .before .before .before .before .before .before .before .before .before .args in refused-file (byWidth (a .kind) (a .limit .0)) (a .kind) (a .limit .0) (now (a .out)) (now (a .work)) (now (a .file)) _ (read-refused _ _ _ _ _ refl refl refl (c .before .before .before .before .before .before .read-as .ensures) _ (ap countAnswer (c .before .k .given .1)))
+returns c = let a = c .before .before .before .before .before .before .before .before .before .before .before .before .before .args in refused-file (byWidth (a .kind) (a .limit .0)) (a .kind) (a .limit .0) (now (a .out)) (now (a .work)) (now (a .file)) _ (read-refused _ _ _ _ _ refl refl refl (c .before .before .before .before .before .before .read-seams .ensures) _ (ap countAnswer (c .before .k .given .1)))
 
 same-length : tie.Need-same-length
 same-length c = search needs
@@ -51,16 +51,16 @@ same-length-2 : tie.Need-same-length-2
 same-length-2 c = search needs
 
 returns-2 : tie.Need-returns-2
-returns-2 c = let a = c .before .before .before .before .before .before .before .before .before .before .before .before .before .before .before .before .before .before .before .before .before .before .before .args in of-file (byWidth (a .kind) (a .limit .0)) (a .kind) (a .limit .0) (now (a .out)) (now (a .work)) (read-held _ _ _ _ _ refl refl refl (c .before .before .before .before .before .before .before .before .before .before .before .before .before .before .before .before .read-as .ensures) _ (ap countAnswer (c .before .before .before .before .before .before .before .before .before .before .before .n .given .1))) (c .before .before .before .before .first-to-width .last .1 .1 .1 .1 .1 .1 .0) (c .before .before .before .before .first-to-width .last .1 .1 .1 .1 .1 .1 .1 .0) (measuredAnswer (c .before .before .before .before .first-to-width .result)) (c .before .before .before .before .first-to-width .ensures)
+returns-2 c = let a = c .before .before .before .before .before .before .before .before .before .before .before .before .before .before .before .before .before .before .before .before .before .before .before .args in of-file (byWidth (a .kind) (a .limit .0)) (a .kind) (a .limit .0) (now (a .out)) (now (a .work)) (read-held _ _ _ _ _ refl refl refl (c .before .before .before .before .before .before .before .before .before .before .before .before .before .before .before .before .read-seams .ensures) _ (ap countAnswer (c .before .before .before .before .before .before .before .before .before .before .before .n .given .1))) (c .before .before .before .before .first-to-width .last .1 .1 .1 .1 .1 .1 .0) (c .before .before .before .before .first-to-width .last .1 .1 .1 .1 .1 .1 .1 .0) (measuredAnswer (c .before .before .before .before .first-to-width .result)) (c .before .before .before .before .first-to-width .ensures)
 
 pub to-width-spec : {M : Type 1} → statement M
 to-width-spec =
     tie.close
     (tie.spec
-    slice-aggregate-read-as
-    slice-aggregate-read-as-2
-    slice-aggregate-read-as-3
-    read-as-requires
+    slice-aggregate-read-seams
+    slice-aggregate-read-seams-2
+    slice-aggregate-read-seams-3
+    read-seams-requires
     enum-known-k
     enum-known-n
     slice-aggregate-first-to-width

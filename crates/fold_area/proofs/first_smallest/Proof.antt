@@ -1,7 +1,7 @@
 use Rattle.fold_area.specs.Calls.{byArea}
 use Rattle.fold.proofs.Answering.{first-refused, search-asks, first-searched}
 use Rattle.folding.specs.Calls.{measuredAnswer}
-use Rattle.terms.specs.Component.{componentsIn}
+use Rattle.terms.specs.Seams.{componentsIn}
 use Rattle.terms.specs.Answer.{countAnswer}
 use lib.Seq.{length-take-le}
 use lib.ListN.{take}
@@ -28,7 +28,7 @@ slice-aggregate-write-smallest-2 : tie.Need-slice-aggregate-write-smallest-2
 slice-aggregate-write-smallest-2 c = sym (length-take-le _ _ (c .before .before .before .before .before .before .before .before .before .before .pre .widths-long))
 
 slice-aggregate-write-smallest-3 : tie.Need-slice-aggregate-write-smallest-3
-slice-aggregate-write-smallest-3 c = sym (length-take-le _ _ (c .before .before .before .before .before .before .before .before .before .before .before .pre .gaps-long))
+slice-aggregate-write-smallest-3 c = sym (length-take-le _ _ (c .before .before .before .before .before .before .before .before .before .before .before .pre .seams-long))
 
 write-smallest-requires : tie.Need-write-smallest-requires
 write-smallest-requires c κs = let a = c .before .before .before .before .before .before .before .before .before .before .before .before .before .args in let q = search-asks (a .kind) (a .n) 1 (now (a .h)) (now (a .w)) (now (a .g)) (now (a .out)) (now (a .work)) (c .before .before .before .before .before .before .before .before .before .before .before .before .before .pre) _ (sym (c .before .before .before .before .before .before .before .check-room .ensures) ∙ ap countAnswer (c .before .before .before .before .before .enum-told .given .1)) in (q .0, omega arith, q .2)

@@ -11,7 +11,7 @@ flat-of-requires : tie.Need-flat-of-requires
 flat-of-requires c κs = (any-kind (c .before .before .before .before .before .before .before .pre .lists), c .before .before .before .before .before .before .before .pre .some)
 
 first-lead-requires : tie.Need-first-lead-requires
-first-lead-requires c κs = (c .before .before .before .before .before .before .before .before .before .before .before .before .pre, flat-leads _ _ (stacked _ _ _ _ (c .before .before .before .before .before .before .before .before .before .before .before .before .pre .lists) (c .before .before .before .before .before .before .before .before .before .before .before .before .pre .some)) _ (c .before .before .before .before .flat-of .ensures))
+first-lead-requires c κs = (c .before .before .before .before .before .before .before .before .before .before .before .before .pre, flat-leads _ _ (stacked _ _ _ _ (c .before .before .before .before .before .before .before .before .before .before .before .before .pre .lists) (c .before .before .before .before .before .before .before .before .before .before .before .before .pre .some) (c .before .before .before .before .before .before .before .before .before .before .before .before .pre .free)) _ (c .before .before .before .before .flat-of .ensures))
 
 pass-requires : tie.Need-pass-requires
 pass-requires c κs = (asks-again (c .before .before .before .before .before .before .before .before .before .before .before .before .before .before .before .before .before .before .before .before .before .before .before .before .before .pre) (omega arith) (c .before .before .before .before .before .before .before .before .before .before .before .before .first-lead .kept .1 .1 .1 .1 .1 .1 .1 .0) (c .before .before .before .before .before .before .before .before .before .before .before .before .first-lead .kept .1 .1 .1 .1 .1 .1 .1 .1 .0) (c .before .before .before .before .before .before .before .before .before .before .before .before .first-lead .kept .1 .1 .1 .1 .1 .1 .1 .1 .1 .0) (omega (arith, c .before .before .before .before .before .before .before .before .before .before .before .before .first-lead .kept .1 .1 .1 .1 .1 .1 .1 .1 .1 .1 .0, c .before .before .before .before .before .before .before .before .before .before .before .before .before .before .before .before .before .before .before .before .before .before .before .before .before .pre .room)), (c .before .before .before .before .before .before .before .before .before .before .before .before .first-lead .ensures, record { widest-is = c .before .before .before .before .before .before .before .before .before .before .before .before .before .before .before .before .before .flat-of .ensures .widest-is; tallest-is = c .before .before .before .before .before .before .before .before .before .before .before .before .before .before .before .before .before .flat-of .ensures .tallest-is; cells-is = c .before .before .before .before .before .before .before .before .before .before .before .before .before .before .before .before .before .flat-of .ensures .cells-is }))

@@ -40,7 +40,7 @@ same-length-2 : tie.Need-same-length-2
 same-length-2 c = search needs
 
 returns : tie.Need-returns
-returns c = to-area _ _ (stacked _ _ _ _ (c .before .before .before .before .before .before .before .before .before .before .before .before .before .before .before .before .before .before .before .before .before .before .before .before .before .before .before .before .pre .0 .lists) (c .before .before .before .before .before .before .before .before .before .before .before .before .before .before .before .before .before .before .before .before .before .before .before .before .before .before .before .before .pre .0 .some)) _ _ (c .before .before .before .before .before .before .before .write-best .last .1 .1 .1 .1 .1 .1 .1 .1 .1 .0) (measuredAnswer (c .before .before .before .before .before .before .before .write-best .result)) (c .before .before .before .before .before .before .before .before .before .before .before .before .before .before .before .before .before .before .smallest .ensures .smallest-for) (c .before .before .before .before .before .before .before .write-best .ensures)
+returns c = to-area _ _ (stacked _ _ _ _ (c .before .before .before .before .before .before .before .before .before .before .before .before .before .before .before .before .before .before .before .before .before .before .before .before .before .before .before .before .pre .0 .lists) (c .before .before .before .before .before .before .before .before .before .before .before .before .before .before .before .before .before .before .before .before .before .before .before .before .before .before .before .before .pre .0 .some) (c .before .before .before .before .before .before .before .before .before .before .before .before .before .before .before .before .before .before .before .before .before .before .before .before .before .before .before .before .pre .0 .free)) _ _ (c .before .before .before .before .before .before .before .write-best .last .1 .1 .1 .1 .1 .1 .1 .1 .1 .0) (measuredAnswer (c .before .before .before .before .before .before .before .write-best .result)) (c .before .before .before .before .before .before .before .before .before .before .before .before .before .before .before .before .before .before .smallest .ensures .smallest-for) (c .before .before .before .before .before .before .before .write-best .ensures)
 
 pub write-smallest-spec : {M : Type 1} → statement M
 write-smallest-spec =

@@ -1,6 +1,6 @@
 use Rattle.terms.specs.Answer.{countAnswer}
 use lib.ListN.{take}
-use Rattle.terms.specs.Component.{componentsIn}
+use Rattle.terms.specs.Seams.{componentsIn}
 use lib.Seq.{length-take-le}
 use Rattle.fold_table.proofs.Tables.{work-short, tabled, list-asks}
 use mathlib.Core.Path.{sym}
@@ -19,7 +19,7 @@ slice-aggregate-list-outlines-2 : tie.Need-slice-aggregate-list-outlines-2
 slice-aggregate-list-outlines-2 c = sym (length-take-le _ _ (c .before .before .before .before .before .before .before .before .pre .widths-long))
 
 slice-aggregate-list-outlines-3 : tie.Need-slice-aggregate-list-outlines-3
-slice-aggregate-list-outlines-3 c = sym (length-take-le _ _ (c .before .before .before .before .before .before .before .before .before .pre .gaps-long))
+slice-aggregate-list-outlines-3 c = sym (length-take-le _ _ (c .before .before .before .before .before .before .before .before .before .pre .seams-long))
 
 list-outlines-requires : tie.Need-list-outlines-requires
 list-outlines-requires c κs = list-asks _ _ (now (c .before .before .before .before .before .before .before .before .before .before .before .args .h)) (now (c .before .before .before .before .before .before .before .before .before .before .before .args .w)) (now (c .before .before .before .before .before .before .before .before .before .before .before .args .g)) (now (c .before .before .before .before .before .before .before .before .before .before .before .args .work)) (c .before .before .before .before .before .before .before .before .before .before .before .pre) (c .before .before .before .before .before .if1 .left)

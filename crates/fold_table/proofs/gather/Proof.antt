@@ -7,7 +7,7 @@ use Rattle.plan.proofs.Planning.{asks-again}
 use borrow.Author.Needs.{needs}
 use mathlib.Core.Path.{_≡_, refl, sym, _∙_}
 use lib.ListN.{length, take}
-use Rattle.terms.specs.Component.{componentsIn}
+use Rattle.terms.specs.Seams.{componentsIn}
 use Rattle.plan.specs.Asks.{PlanAsks}
 use Rattle.plan.specs.Memory.{Known}
 use Rattle.fold_table.specs.Inner.{GatheredTo}

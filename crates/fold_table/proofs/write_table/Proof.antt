@@ -1,6 +1,6 @@
 use mathlib.Core.Path.{_≡_, refl, _∙_}
 use lib.ListN.{length}
-use Rattle.terms.specs.Component.{componentsIn}
+use Rattle.terms.specs.Seams.{componentsIn}
 use Rattle.plan.specs.Asks.{PlanAsks}
 use Rattle.plan.specs.Memory.{Known}
 use Rattle.plan.proofs.Planning.{asks-again}

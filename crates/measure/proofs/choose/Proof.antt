@@ -14,8 +14,8 @@ use Rattle.measure.proofs.choose.Tie as tie
 
 -- What the lists hold once the file was read.
 held : (c : tie.After-known-told) → let a = c .before .before .before .before .before .before in
-    Held (a .before .before .before .before .before .before .before .args .kind) (now (a .before .before .before .before .before .before .before .args .file)) (c .before .n .given .0 .0) (a .read-as .last .1 .1 .0) (a .read-as .last .1 .1 .1 .0) (a .read-as .last .1 .1 .1 .1 .0)
-held c = read-held _ _ _ _ _ refl refl refl (c .before .before .before .before .before .before .read-as .ensures) _ (ap countAnswer (c .before .n .given .1))
+    Held (a .before .before .before .before .before .before .before .args .kind) (now (a .before .before .before .before .before .before .before .args .file)) (c .before .n .given .0 .0) (a .read-seams .last .1 .1 .0) (a .read-seams .last .1 .1 .1 .0) (a .read-seams .last .1 .1 .1 .1 .0)
+held c = read-held _ _ _ _ _ refl refl refl (c .before .before .before .before .before .before .read-seams .ensures) _ (ap countAnswer (c .before .n .given .1))
 
 -- The winner, over the file's components.
 outcome : (c : tie.After-better-of) → let a = c .before .before .before .before .before .before .before .before .before .before .before .before .before .before .before .before .before .args in
@@ -23,17 +23,17 @@ outcome : (c : tie.After-better-of) → let a = c .before .before .before .befor
     c .better-of .result ≡ winnerIs (measureIn (a .kind) cs (now (a .first))) (measureIn (a .kind) cs (now (a .second)))
 outcome c = rw (components-held (held (c .before .before .before .before))) at (c .better-of .ensures)
 
-slice-aggregate-read-as : tie.Need-slice-aggregate-read-as
-slice-aggregate-read-as c = search needs
+slice-aggregate-read-seams : tie.Need-slice-aggregate-read-seams
+slice-aggregate-read-seams c = search needs
 
-slice-aggregate-read-as-2 : tie.Need-slice-aggregate-read-as-2
-slice-aggregate-read-as-2 c = search needs
+slice-aggregate-read-seams-2 : tie.Need-slice-aggregate-read-seams-2
+slice-aggregate-read-seams-2 c = search needs
 
-slice-aggregate-read-as-3 : tie.Need-slice-aggregate-read-as-3
-slice-aggregate-read-as-3 c = search needs
+slice-aggregate-read-seams-3 : tie.Need-slice-aggregate-read-seams-3
+slice-aggregate-read-seams-3 c = search needs
 
-read-as-requires : tie.Need-read-as-requires
-read-as-requires c κs = search needs
+read-seams-requires : tie.Need-read-seams-requires
+read-seams-requires c κs = search needs
 
 enum-told : tie.Need-enum-told
 enum-told c = search needs
@@ -57,7 +57,7 @@ slice-aggregate-better-of-3 : tie.Need-slice-aggregate-better-of-3
 slice-aggregate-better-of-3 c = search needs
 
 better-of-requires : tie.Need-better-of-requires
-better-of-requires c κs = first-held (held ((c .before .before .before))) (c .before .before .before .before .before .before .before .before .before .read-as .kept .1 .1 .0) (c .before .before .before .before .before .before .before .before .before .read-as .kept .1 .1 .1 .0) (c .before .before .before .before .before .before .before .before .before .read-as .kept .1 .1 .1 .1 .0)
+better-of-requires c κs = first-held (held ((c .before .before .before))) (c .before .before .before .before .before .before .before .before .before .read-seams .kept .1 .1 .0) (c .before .before .before .before .before .before .before .before .before .read-seams .kept .1 .1 .1 .0) (c .before .before .before .before .before .before .before .before .before .read-seams .kept .1 .1 .1 .1 .0)
 
 enum-told-2 : tie.Need-enum-told-2
 enum-told-2 c = search needs
@@ -82,7 +82,7 @@ slice-aggregate-result-4 : tie.Need-slice-aggregate-result-4
 slice-aggregate-result-4 c = search needs
 
 returns : tie.Need-returns
-returns c = chose-refused (c .before .before .before .before .before .before .before .before .before .before .before .before .before .args .kind) (now (c .before .before .before .before .before .before .before .before .before .before .before .before .before .args .file)) (now (c .before .before .before .before .before .before .before .before .before .before .before .before .before .args .first)) (now (c .before .before .before .before .before .before .before .before .before .before .before .before .before .args .second)) _ (read-refused _ _ _ _ _ refl refl refl (c .before .before .before .before .before .before .read-as .ensures) _ (ap countAnswer (c .before .enum-told .given .1)))
+returns c = chose-refused (c .before .before .before .before .before .before .before .before .before .before .before .before .before .args .kind) (now (c .before .before .before .before .before .before .before .before .before .before .before .before .before .args .file)) (now (c .before .before .before .before .before .before .before .before .before .before .before .before .before .args .first)) (now (c .before .before .before .before .before .before .before .before .before .before .before .before .before .args .second)) _ (read-refused _ _ _ _ _ refl refl refl (c .before .before .before .before .before .before .read-seams .ensures) _ (ap countAnswer (c .before .enum-told .given .1)))
 
 returns-2 : tie.Need-returns-2
 returns-2 c = let h = held ((c .before .before .before .before .before .before .before)) in
@@ -103,10 +103,10 @@ pub choose-spec : {M : Type 1} → statement M
 choose-spec =
     tie.close
     (tie.spec
-    slice-aggregate-read-as
-    slice-aggregate-read-as-2
-    slice-aggregate-read-as-3
-    read-as-requires
+    slice-aggregate-read-seams
+    slice-aggregate-read-seams-2
+    slice-aggregate-read-seams-3
+    read-seams-requires
     enum-told
     slice-aggregate-result
     enum-known-n

@@ -10,7 +10,7 @@ slice-aggregate-measure-lists-2 : tie.Need-slice-aggregate-measure-lists-2
 slice-aggregate-measure-lists-2 c = sym (length-take-le _ _ (c .before .before .before .before .before .before .pre .widths-long))
 
 slice-aggregate-measure-lists-3 : tie.Need-slice-aggregate-measure-lists-3
-slice-aggregate-measure-lists-3 c = sym (length-take-le _ _ (c .before .before .before .before .before .before .before .pre .gaps-long))
+slice-aggregate-measure-lists-3 c = sym (length-take-le _ _ (c .before .before .before .before .before .before .before .pre .seams-long))
 
 measure-lists-requires : tie.Need-measure-lists-requires
 measure-lists-requires c κs = c .before .before .before .before .before .before .before .pre .stack

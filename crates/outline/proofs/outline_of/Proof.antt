@@ -8,10 +8,10 @@ use Rattle.outline.proofs.outline_of.Statement.{statement}
 use Rattle.outline.proofs.outline_of.Tie as tie
 
 abbrev Inv-loop : tie.InvT-loop
-Inv-loop heights widths gaps flat n width₀ height₀ before₀ from₀ width height before from = Walked heights widths gaps flat width height before from
+Inv-loop heights widths seams flat n width₀ height₀ before₀ from₀ width height before from = Walked heights widths seams flat width height before from
 
 abbrev μ-loop : tie.MeasureT-loop
-μ-loop heights widths gaps flat n width₀ height₀ before₀ from₀ width height before from = length heights - from
+μ-loop heights widths seams flat n width₀ height₀ before₀ from₀ width height before from = length heights - from
 
 loop-holds : tie.Need-loop-holds Inv-loop μ-loop
 loop-holds c = walk-start (c .before .before .before .before .pre)
@@ -82,23 +82,17 @@ add-width c = search needs
 larger-requires : tie.Need-larger-requires Inv-loop μ-loop
 larger-requires c κs = search needs
 
-sub-wide : tie.Need-sub-wide Inv-loop μ-loop
-sub-wide c = search needs
+sub-gap : tie.Need-sub-gap Inv-loop μ-loop
+sub-gap c = search needs
 
-mul-wide : tie.Need-mul-wide Inv-loop μ-loop
-mul-wide c = search needs
-
-shared-slice-read-wide : tie.Need-shared-slice-read-wide Inv-loop μ-loop
-shared-slice-read-wide c = search needs
-
-wide-requires : tie.Need-wide-requires Inv-loop μ-loop
-wide-requires c κs = search needs
+gap-requires : tie.Need-gap-requires Inv-loop μ-loop
+gap-requires c κs = search needs
 
 loop-less : tie.Need-loop-less Inv-loop μ-loop
 loop-less c = search needs
 
 loop-again : tie.Need-loop-again Inv-loop μ-loop
-loop-again c = walk-on (c .before .before .before .before .before .before .before .before .before .before .before .before .before .before .before .before .pre) (c .before .before .before .before .before .before .before .before .before .before .before .loop .inv) (c .before .before .before .before .before .before .before .before .before .group-end .ensures) (c .before .before .before .before .group-outline .ensures .width-is) (c .before .before .before .before .group-outline .ensures .height-is) (c .before .before .before .before .group-outline .ensures .slim) (c .before .before .larger .ensures) (c .wide .ensures .0) (omega (arith, c .wide .ensures .1))
+loop-again c = walk-on (c .before .before .before .before .before .before .before .before .before .before .before .before .before .before .before .pre) (c .before .before .before .before .before .before .before .before .before .before .loop .inv) (c .before .before .before .before .before .before .before .before .group-end .ensures) (c .before .before .before .group-outline .ensures .width-is) (c .before .before .before .group-outline .ensures .height-is) (c .before .before .before .group-outline .ensures .slim) (c .before .larger .ensures) (c .gap .ensures .0) (omega (arith, c .gap .ensures .1))
 
 returns : tie.Need-returns Inv-loop μ-loop
 returns c = (let d = walk-done (c .before .before .before .before .before .before .pre) (c .before .loop .inv) (c .loop-test .left) in rw (← d .0, ← d .1), all-at-start _)
@@ -132,10 +126,8 @@ outline-of-spec =
     group-outline-requires
     add-width
     larger-requires
-    sub-wide
-    mul-wide
-    shared-slice-read-wide
-    wide-requires
+    sub-gap
+    gap-requires
     loop-less
     loop-again
     returns)

@@ -3,7 +3,7 @@ use Prim.Native.Nat.{_-_}
 use mathlib.Core.Path.{_≡_, refl}
 use lib.ListN.{length}
 use Rattle.terms.proofs.Answers.{most-256}
-use Rattle.terms.specs.Component.{componentsIn}
+use Rattle.terms.specs.Seams.{componentsIn}
 use Rattle.plan.specs.Memory.{RowDone}
 use Rattle.plan.proofs.Scanning.{Scanned, scan-start, scan-stop, next-asks, scan-more, scan-done}
 use Rattle.plan.proofs.Remembering.{row-start, row-word, row-more}
@@ -64,7 +64,7 @@ add-k : tie.Need-add-k Inv-loop μ-loop
 add-k c = omega (arith, c .before .before .before .before .before .before .before .before .loop-test .taken, c .before .before .before .before .before .before .before .before .before .before .before .before .before .before .before .before .before .pre .0 .lists .few, most-256 (c .before .before .before .before .before .before .before .before .before .before .before .before .before .before .before .before .before .args .kind))
 
 try-first-requires : tie.Need-try-first-requires Inv-loop μ-loop
-try-first-requires c κs = let q = next-asks (c .before .before .before .before .before .before .before .before .before .before .before .before .before .before .before .before .before .before .pre .0) _ (c .before .before .before .before .before .before .before .before .before .before .before .before .before .before .before .before .before .before .pre .1 .1 .0) (c .before .before .before .before .before .before .before .before .before .before .loop .inv .0) (c .before .before .before .before .before .before .before .before .before .loop-test .taken) _ _ (c .before .before .before .before .before .before .before .wide .ensures .0) (c .before .before .before .before .before .before .before .before .before .before .before .most-rows .ensures .0) (c .before .before .before .before .before .if1 .left) (c .before .before .before .before .before .before .before .before .before .before .before .most-rows .ensures .1) _ _ (c .before .before .before .wide2 .ensures .0) (c .before .before .larger .ensures) _ (c .before .rest-at .ensures) in (q .0, (q .1, (row-word _ _ _ _ _ _ (c .before .before .before .before .before .before .before .before .before .before .loop .k) (c .before .before .before .before .before .before .before .before .before .loop-test .taken) (c .before .before .before .before .before .before .before .before .before .before .before .before .before .before .before .before .before .before .args .kind) _ _ (c .before .before .before .before .before .before .before .before .before .before .loop .inv .2), (omega (arith, c .before .before .before .before .before .before .before .before .before .loop-test .taken), omega (arith, c .before .before .before .before .before .before .before .before .before .loop-test .taken, c .before .before .before .before .before .before .before .before .before .before .before .before .before .before .before .before .before .before .pre .0 .lists .same-widths), omega (arith, c .before .before .before .before .before .before .before .before .before .loop-test .taken, c .before .before .before .before .before .before .before .before .before .before .before .before .before .before .before .before .before .before .pre .0 .lists .same-gaps)))))
+try-first-requires c κs = let q = next-asks (c .before .before .before .before .before .before .before .before .before .before .before .before .before .before .before .before .before .before .pre .0) _ (c .before .before .before .before .before .before .before .before .before .before .before .before .before .before .before .before .before .before .pre .1 .1 .0) (c .before .before .before .before .before .before .before .before .before .before .loop .inv .0) (c .before .before .before .before .before .before .before .before .before .loop-test .taken) _ _ (c .before .before .before .before .before .before .before .wide .ensures .0) (c .before .before .before .before .before .before .before .before .before .before .before .most-rows .ensures .0) (c .before .before .before .before .before .if1 .left) (c .before .before .before .before .before .before .before .before .before .before .before .most-rows .ensures .1) _ _ (c .before .before .before .wide2 .ensures .0) (c .before .before .larger .ensures) _ (c .before .rest-at .ensures) in (q .0, (q .1, (row-word _ _ _ _ _ _ (c .before .before .before .before .before .before .before .before .before .before .loop .k) (c .before .before .before .before .before .before .before .before .before .loop-test .taken) (c .before .before .before .before .before .before .before .before .before .before .before .before .before .before .before .before .before .before .args .kind) _ _ (c .before .before .before .before .before .before .before .before .before .before .loop .inv .2), (omega (arith, c .before .before .before .before .before .before .before .before .before .loop-test .taken), omega (arith, c .before .before .before .before .before .before .before .before .before .loop-test .taken, c .before .before .before .before .before .before .before .before .before .before .before .before .before .before .before .before .before .before .pre .0 .lists .same-widths), omega (arith, c .before .before .before .before .before .before .before .before .before .loop-test .taken, c .before .before .before .before .before .before .before .before .before .before .before .before .before .before .before .before .before .before .pre .0 .lists .same-seams)))))
 
 loop-less : tie.Need-loop-less Inv-loop μ-loop
 loop-less c = search needs

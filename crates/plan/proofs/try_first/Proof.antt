@@ -3,7 +3,7 @@ use mathlib.Core.Path.{sym}
 use lib.Seq.{length-take-le}
 use Rattle.plan.proofs.Trying.{first-tried}
 use Rattle.plan.specs.Asks.{layoutIn}
-use Rattle.terms.specs.Component.{componentsIn}
+use Rattle.terms.specs.Seams.{componentsIn}
 use lib.ListN.{take}
 use borrow.Author.Needs.{needs}
 use Rattle.plan.proofs.try_first.Statement.{statement}

@@ -1,3 +1,4 @@
+use Rattle.stack.proofs.Valid.{within}
 use Rattle.terms.proofs.Moves.{moves}
 use Prim.Native.Nat.{_-_, _≤_}
 use mathlib.Core.Path.{_≡_, sym, _∙_}
@@ -24,7 +25,7 @@ loop-holds : tie.Need-loop-holds Inv-loop μ-loop
 loop-holds c = let e = c .first .ensures in (omega arith, rw e)
 
 component-at-requires : tie.Need-component-at-requires Inv-loop μ-loop
-component-at-requires c κs = omega arith
+component-at-requires c κs = within _ _ _ (c .before .before .before .before .before .pre .0) (c .if1 .taken)
 
 add-last : tie.Need-add-last Inv-loop μ-loop
 add-last c = omega arith

@@ -1,50 +1,29 @@
-use Rattle.stack_folds.proofs.Looking.{refused, none, past, found}
-use Rattle.stack.proofs.Looking.{size}
-use mathlib.Core.Path.{ap}
-use Rattle.terms.specs.Answer.{countAnswer}
+use lib.ListN.{length}
+use denote.Ref.{now}
+use mathlib.Core.Path.{sym, ap, _∙_}
+use Rattle.stack_folds.proofs.Looking.{empty, found}
 use native.Mathlib.Omega.{arith}
-use mathlib.Core.Path.{sym, _∙_}
 use borrow.Author.Needs.{needs}
 use Rattle.stack_folds.proofs.folds_lookup.Statement.{statement}
 use Rattle.stack_folds.proofs.folds_lookup.Tie as tie
 
-check-requires : tie.Need-check-requires
-check-requires c κs = search needs
-
-enum-told : tie.Need-enum-told
-enum-told c = search needs
-
-enum-known-n : tie.Need-enum-known-n
-enum-known-n c = search needs
+lookup-requires : tie.Need-lookup-requires
+lookup-requires c κs = search needs
 
 returns : tie.Need-returns
-returns c = none _ _ (sym (c .before .before .before .before .check .ensures) ∙ ap countAnswer (c .before .before .n .given .1)) (c .if1 .taken)
+returns c = empty _ _ (ap length (sym (c .before .lookup .ensures)) ∙ c .if1 .taken)
+
+sub-t6 : tie.Need-sub-t6
+sub-t6 c = omega (arith, found (now (c .before .before .before .args .file)) (c .before .before .before .args .number) _ (ap length (c .before .lookup .ensures)) (c .if1 .left) .some)
+
+mul-t7 : tie.Need-mul-t7
+mul-t7 c = omega (arith, found (now (c .before .before .before .args .file)) (c .before .before .before .args .number) _ (ap length (c .before .lookup .ensures)) (c .if1 .left) .room)
+
+add-t8 : tie.Need-add-t8
+add-t8 c = omega (arith, found (now (c .before .before .before .args .file)) (c .before .before .before .args .number) _ (ap length (c .before .lookup .ensures)) (c .if1 .left) .room)
 
 returns-2 : tie.Need-returns-2
-returns-2 c = past _ _ (sym (c .before .before .before .before .before .check .ensures) ∙ ap countAnswer (c .before .before .before .n .given .1)) (c .before .if1 .left) (c .if2 .taken)
-
-mul-t9 : tie.Need-mul-t9
-mul-t9 c = omega (arith, size _ (c .before .before .before .before .before .before .before .args .number) (sym (c .before .before .before .before .before .check .ensures) ∙ ap countAnswer (c .before .before .before .n .given .1)))
-
-add-t10 : tie.Need-add-t10
-add-t10 c = omega (arith, size _ (c .before .before .before .before .before .before .before .args .number) (sym (c .before .before .before .before .before .check .ensures) ∙ ap countAnswer (c .before .before .before .n .given .1)))
-
-returns-3 : tie.Need-returns-3
-returns-3 c = refused _ _ _ (sym (c .before .before .check .ensures) ∙ ap countAnswer (c .enum-told .given .1))
-
-returns-4 : tie.Need-returns-4
-returns-4 c = found _ _ (sym (c .before .before .before .before .before .check .ensures) ∙ ap countAnswer (c .before .before .before .n .given .1)) (c .before .if1 .left) (c .if2 .left)
+returns-2 c = found (now (c .before .before .before .args .file)) (c .before .before .before .args .number) _ (ap length (c .before .lookup .ensures)) (c .if1 .left) .looked
 
 pub folds-lookup-spec : {M : Type 1} → statement M
-folds-lookup-spec =
-    tie.close
-    (tie.spec
-    check-requires
-    enum-told
-    enum-known-n
-    returns
-    returns-2
-    mul-t9
-    add-t10
-    returns-3
-    returns-4)
+folds-lookup-spec = tie.close (tie.spec lookup-requires returns sub-t6 mul-t7 add-t8 returns-2)

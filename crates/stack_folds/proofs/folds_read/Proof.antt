@@ -18,10 +18,20 @@ same-length-2 c = search needs
 same-length-3 : tie.Need-same-length-3
 same-length-3 c = search needs
 
+same-length-4 : tie.Need-same-length-4
+same-length-4 c = search needs
+
 returns : tie.Need-returns
-returns c = (rw (c .counted .ensures, count-said (c .before .before .before .before .before .before .before .read .result)) (c .before .before .before .before .before .before .before .read .ensures), plain-count _ (c .before .before .before .before .before .before .before .read .result) (c .counted .ensures))
+returns c = (rw (c .counted .ensures, count-said (c .before .before .before .before .before .before .before .before .before .read .result)) (c .before .before .before .before .before .before .before .before .before .read .ensures), plain-count _ (c .before .before .before .before .before .before .before .before .before .read .result) (c .counted .ensures))
 
 pub folds-read-spec : {M : Type 1} → statement M
 folds-read-spec =
     tie.close
-    (tie.spec read-requires counted-requires same-length same-length-2 same-length-3 returns)
+    (tie.spec
+    read-requires
+    counted-requires
+    same-length
+    same-length-2
+    same-length-3
+    same-length-4
+    returns)

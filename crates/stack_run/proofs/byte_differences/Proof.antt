@@ -4,10 +4,10 @@ use Rattle.stack_run.proofs.byte_differences.Statement.{statement}
 use Rattle.stack_run.proofs.byte_differences.Tie as tie
 
 abbrev Inv-loop : tie.InvT-loop
-Inv-loop a b count₀ i₀ count i = (i ≤ 1543) × (count ≤ i)
+Inv-loop a b count₀ i₀ count i = (i ≤ 2055) × (count ≤ i)
 
 abbrev μ-loop : tie.MeasureT-loop
-μ-loop a b count₀ i₀ count i = 1543 - i
+μ-loop a b count₀ i₀ count i = 2055 - i
 
 loop-holds : tie.Need-loop-holds Inv-loop μ-loop
 loop-holds c = search needs

@@ -1,27 +1,21 @@
+use mathlib.Core.Path.{sym}
 use lib.Seq.{length-take-le}
 use native.Mathlib.Omega.{arith}
-use mathlib.Core.Path.{refl, sym}
 use borrow.Author.Needs.{needs}
 use Rattle.stack_run.proofs.count_case.Statement.{statement}
 use Rattle.stack_run.proofs.count_case.Tie as tie
 
 slice-aggregate-make : tie.Need-slice-aggregate-make
-slice-aggregate-make c = refl
+slice-aggregate-make c = search needs
 
 make-requires : tie.Need-make-requires
 make-requires c κs = search needs
-
-mul-end : tie.Need-mul-end
-mul-end c = search needs
-
-add-end : tie.Need-add-end
-add-end c = search needs
 
 say-requires : tie.Need-say-requires
 say-requires c κs = search needs
 
 slice-aggregate-say : tie.Need-slice-aggregate-say
-slice-aggregate-say c = refl
+slice-aggregate-say c = search needs
 
 say-requires-2 : tie.Need-say-requires-2
 say-requires-2 c κs = search needs
@@ -30,7 +24,7 @@ array-share-prefix-space : tie.Need-array-share-prefix-space
 array-share-prefix-space c = search needs
 
 slice-aggregate-check : tie.Need-slice-aggregate-check
-slice-aggregate-check c = sym (length-take-le _ _ (omega (arith, c .before .before .before .before .before .make .kept .0)))
+slice-aggregate-check c = sym (length-take-le _ _ (omega (arith, c .before .before .before .before .before .make .kept .0, c .before .before .before .before .before .make .ensures)))
 
 check-requires : tie.Need-check-requires
 check-requires c κs = search needs
@@ -42,7 +36,7 @@ say-requires-3 : tie.Need-say-requires-3
 say-requires-3 c κs = search needs
 
 slice-aggregate-say-2 : tie.Need-slice-aggregate-say-2
-slice-aggregate-say-2 c = refl
+slice-aggregate-say-2 c = search needs
 
 say-requires-4 : tie.Need-say-requires-4
 say-requires-4 c κs = search needs
@@ -51,7 +45,7 @@ array-share-prefix-space-2 : tie.Need-array-share-prefix-space-2
 array-share-prefix-space-2 c = search needs
 
 slice-aggregate-check-2 : tie.Need-slice-aggregate-check-2
-slice-aggregate-check-2 c = sym (length-take-le _ _ (omega (arith, c .before .before .before .before .before .before .before .before .before .before .before .make .kept .0)))
+slice-aggregate-check-2 c = sym (length-take-le _ _ (omega (arith, c .before .before .before .before .before .before .before .before .before .before .before .make .kept .0, c .before .before .before .before .before .before .before .before .before .before .before .make .ensures)))
 
 check-requires-2 : tie.Need-check-requires-2
 check-requires-2 c κs = search needs
@@ -68,8 +62,6 @@ count-case-spec =
     (tie.spec
     slice-aggregate-make
     make-requires
-    mul-end
-    add-end
     say-requires
     slice-aggregate-say
     say-requires-2

@@ -1,4 +1,4 @@
-use Prim.Native.Nat.{_-_, _≤_}
+use Prim.Native.Nat.{_+_, _*_, _-_, _≤_}
 use lib.ListN.{length}
 use mathlib.Core.Path.{_≡_}
 use borrow.Author.Needs.{needs}
@@ -6,10 +6,10 @@ use Rattle.stack_run.proofs.make.Statement.{statement}
 use Rattle.stack_run.proofs.make.Tie as tie
 
 abbrev Inv-loop : tie.InvT-loop
-Inv-loop file₀ n i₀ file i = (i ≤ n) × (length file ≡ length file₀)
+Inv-loop file₀ version each n end₀ i₀ file end i = (i ≤ n) × (length file ≡ length file₀) × (end ≤ 7 + 8 * i)
 
 abbrev μ-loop : tie.MeasureT-loop
-μ-loop file₀ n i₀ file i = n - i
+μ-loop file₀ version each n end₀ i₀ file end i = n - i
 
 put-requires : tie.Need-put-requires Inv-loop μ-loop
 put-requires c κs = search needs
@@ -26,32 +26,17 @@ put-requires-4 c κs = search needs
 loop-holds : tie.Need-loop-holds Inv-loop μ-loop
 loop-holds c = search needs
 
-mul-put : tie.Need-mul-put Inv-loop μ-loop
-mul-put c = search needs
+put-requires-5 : tie.Need-put-requires-5 Inv-loop μ-loop
+put-requires-5 c κs = search needs
 
 add-put : tie.Need-add-put Inv-loop μ-loop
 add-put c = search needs
 
-put-requires-5 : tie.Need-put-requires-5 Inv-loop μ-loop
-put-requires-5 c κs = search needs
-
-mul-put-2 : tie.Need-mul-put-2 Inv-loop μ-loop
-mul-put-2 c = search needs
-
-add-put-2 : tie.Need-add-put-2 Inv-loop μ-loop
-add-put-2 c = search needs
-
 put-requires-6 : tie.Need-put-requires-6 Inv-loop μ-loop
 put-requires-6 c κs = search needs
 
-mul-put-3 : tie.Need-mul-put-3 Inv-loop μ-loop
-mul-put-3 c = search needs
-
-add-put-3 : tie.Need-add-put-3 Inv-loop μ-loop
-add-put-3 c = search needs
-
-put-requires-7 : tie.Need-put-requires-7 Inv-loop μ-loop
-put-requires-7 c κs = search needs
+add-end : tie.Need-add-end Inv-loop μ-loop
+add-end c = search needs
 
 add-i : tie.Need-add-i Inv-loop μ-loop
 add-i c = search needs
@@ -79,15 +64,10 @@ make-spec =
     put-requires-3
     put-requires-4
     loop-holds
-    mul-put
-    add-put
     put-requires-5
-    mul-put-2
-    add-put-2
+    add-put
     put-requires-6
-    mul-put-3
-    add-put-3
-    put-requires-7
+    add-end
     add-i
     loop-less
     loop-again

@@ -1,18 +1,18 @@
+use mathlib.Core.Path.{sym}
 use lib.Seq.{length-take-le}
 use native.Mathlib.Omega.{arith}
-use mathlib.Core.Path.{refl, sym}
 use borrow.Author.Needs.{needs}
 use Rattle.stack_run.proofs.prefix_case.Statement.{statement}
 use Rattle.stack_run.proofs.prefix_case.Tie as tie
 
 slice-aggregate-make : tie.Need-slice-aggregate-make
-slice-aggregate-make c = refl
+slice-aggregate-make c = search needs
 
 make-requires : tie.Need-make-requires
 make-requires c κs = search needs
 
 slice-aggregate-say-number : tie.Need-slice-aggregate-say-number
-slice-aggregate-say-number c = refl
+slice-aggregate-say-number c = search needs
 
 say-number-requires : tie.Need-say-number-requires
 say-number-requires c κs = search needs
@@ -21,7 +21,7 @@ array-share-prefix-space : tie.Need-array-share-prefix-space
 array-share-prefix-space c = search needs
 
 slice-aggregate-check : tie.Need-slice-aggregate-check
-slice-aggregate-check c = sym (length-take-le _ _ (omega (arith, c .before .before .before .before .make .kept .0)))
+slice-aggregate-check c = sym (length-take-le _ _ (omega (arith, c .before .before .before .before .make .kept .0, c .before .before .before .before .before .before .pre .1)))
 
 check-requires : tie.Need-check-requires
 check-requires c κs = search needs

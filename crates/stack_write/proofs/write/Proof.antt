@@ -1,19 +1,21 @@
-use Rattle.stack_write.specs.Inner.{Lists}
+use Rattle.stack_write.proofs.Writing.{other-widths, other-gaps, other-marks, by-check, long, few, short, wrote}
 use Rattle.terms.proofs.Parts.{from-length}
-use Rattle.stack_write.proofs.Writing.{other-widths, other-gaps, by-check, long, few, short, wrote}
 use Rattle.terms.specs.Answer.{countAnswer}
-use native.Mathlib.Omega.{arith}
 use mathlib.Core.Path.{sym, ap, _∙_}
 use denote.Ref.{now}
+use native.Mathlib.Omega.{arith}
 use borrow.Author.Needs.{needs}
 use Rattle.stack_write.proofs.write.Statement.{statement}
 use Rattle.stack_write.proofs.write.Tie as tie
 
 returns : tie.Need-returns
-returns c = other-widths _ _ _ _ (c .if1 .taken)
+returns c = other-widths _ _ _ _ _ (c .if1 .taken)
 
 returns-2 : tie.Need-returns-2
-returns-2 c = other-gaps _ _ _ _ (c .before .if1 .left) (c .if2 .taken)
+returns-2 c = other-gaps _ _ _ _ _ (c .before .if1 .left) (c .if2 .taken)
+
+returns-3 : tie.Need-returns-3
+returns-3 c = other-marks _ _ _ _ _ (c .before .before .if1 .left) (c .before .if2 .left) (c .if3 .taken)
 
 check-lists-requires : tie.Need-check-lists-requires
 check-lists-requires c κs = search needs
@@ -24,17 +26,17 @@ enum-known-k c = search needs
 enum-known-n : tie.Need-enum-known-n
 enum-known-n c = search needs
 
-mul-if3 : tie.Need-mul-if3
-mul-if3 c = omega (arith, few (now (c .before .before .before .before .before .before .before .before .before .before .args .heights)) (now (c .before .before .before .before .before .before .before .before .before .before .args .widths)) (now (c .before .before .before .before .before .before .before .before .before .before .args .gaps)) (now (c .before .before .before .before .before .before .before .before .before .before .args .out)) (record { widths-long = c .before .before .before .before .before .if1 .left; gaps-long = c .before .before .before .before .if2 .left }) (sym (c .before .before .before .check-lists .ensures) ∙ ap countAnswer (c .before .n .given .1)))
+mul-if4 : tie.Need-mul-if4
+mul-if4 c = omega (arith, few (now (c .before .before .before .before .before .before .before .before .before .before .before .before .args .heights)) (now (c .before .before .before .before .before .before .before .before .before .before .before .before .args .widths)) (now (c .before .before .before .before .before .before .before .before .before .before .before .before .args .gaps)) (now (c .before .before .before .before .before .before .before .before .before .before .before .before .args .marks)) (sym (c .before .before .before .check-lists .ensures) ∙ ap countAnswer (c .before .n .given .1)))
 
-add-if3 : tie.Need-add-if3
-add-if3 c = omega (arith, few (now (c .before .before .before .before .before .before .before .before .before .before .args .heights)) (now (c .before .before .before .before .before .before .before .before .before .before .args .widths)) (now (c .before .before .before .before .before .before .before .before .before .before .args .gaps)) (now (c .before .before .before .before .before .before .before .before .before .before .args .out)) (record { widths-long = c .before .before .before .before .before .if1 .left; gaps-long = c .before .before .before .before .if2 .left }) (sym (c .before .before .before .check-lists .ensures) ∙ ap countAnswer (c .before .n .given .1)))
+add-if4 : tie.Need-add-if4
+add-if4 c = omega (arith, few (now (c .before .before .before .before .before .before .before .before .before .before .before .before .args .heights)) (now (c .before .before .before .before .before .before .before .before .before .before .before .before .args .widths)) (now (c .before .before .before .before .before .before .before .before .before .before .before .before .args .gaps)) (now (c .before .before .before .before .before .before .before .before .before .before .before .before .args .marks)) (sym (c .before .before .before .check-lists .ensures) ∙ ap countAnswer (c .before .n .given .1)))
 
-returns-3 : tie.Need-returns-3
-returns-3 c = short _ _ _ _ (record { widths-long = c .before .before .before .before .before .before .if1 .left; gaps-long = c .before .before .before .before .before .if2 .left }) (sym (c .before .before .before .before .check-lists .ensures) ∙ ap countAnswer (c .before .before .n .given .1)) (c .if3 .taken)
+returns-4 : tie.Need-returns-4
+returns-4 c = short _ _ _ _ _ (record { widths-long = c .before .before .before .before .before .before .before .if1 .left; gaps-long = c .before .before .before .before .before .before .if2 .left; marks-long = c .before .before .before .before .before .if3 .left }) (sym (c .before .before .before .before .check-lists .ensures) ∙ ap countAnswer (c .before .before .n .given .1)) (c .if4 .taken)
 
 cast-put-header : tie.Need-cast-put-header
-cast-put-header c = omega (arith, few (now (c .before .before .before .before .before .before .before .before .before .before .before .before .args .heights)) (now (c .before .before .before .before .before .before .before .before .before .before .before .before .args .widths)) (now (c .before .before .before .before .before .before .before .before .before .before .before .before .args .gaps)) (now (c .before .before .before .before .before .before .before .before .before .before .before .before .args .out)) (record { widths-long = c .before .before .before .before .before .before .before .if1 .left; gaps-long = c .before .before .before .before .before .before .if2 .left }) (sym (c .before .before .before .before .before .check-lists .ensures) ∙ ap countAnswer (c .before .before .before .n .given .1)))
+cast-put-header c = omega (arith, few (now (c .before .before .before .before .before .before .before .before .before .before .before .before .before .before .args .heights)) (now (c .before .before .before .before .before .before .before .before .before .before .before .before .before .before .args .widths)) (now (c .before .before .before .before .before .before .before .before .before .before .before .before .before .before .args .gaps)) (now (c .before .before .before .before .before .before .before .before .before .before .before .before .before .before .args .marks)) (sym (c .before .before .before .before .before .check-lists .ensures) ∙ ap countAnswer (c .before .before .before .n .given .1)))
 
 put-header-requires : tie.Need-put-header-requires
 put-header-requires c κs = search needs
@@ -49,25 +51,24 @@ part-put-components-end : tie.Need-part-put-components-end
 part-put-components-end c = search needs
 
 put-components-requires : tie.Need-put-components-requires
-put-components-requires c κs = let s : Lists (now (c .before .before .before .before .before .before .before .before .before .before .before .before .before .before .before .before .args .heights)) (now (c .before .before .before .before .before .before .before .before .before .before .before .before .before .before .before .before .args .widths)) (now (c .before .before .before .before .before .before .before .before .before .before .before .before .before .before .before .before .args .gaps)) = (record { widths-long = c .before .before .before .before .before .before .before .before .before .before .before .if1 .left; gaps-long = c .before .before .before .before .before .before .before .before .before .before .if2 .left }) in
-    let n = long (now (c .before .before .before .before .before .before .before .before .before .before .before .before .before .before .before .before .args .heights)) (now (c .before .before .before .before .before .before .before .before .before .before .before .before .before .before .before .before .args .widths)) (now (c .before .before .before .before .before .before .before .before .before .before .before .before .before .before .before .before .args .gaps)) (now (c .before .before .before .before .before .before .before .before .before .before .before .before .before .before .before .before .args .out)) s (sym (c .before .before .before .before .before .before .before .before .before .check-lists .ensures) ∙ ap countAnswer (c .before .before .before .before .before .before .before .n .given .1)) in
-    let m = few (now (c .before .before .before .before .before .before .before .before .before .before .before .before .before .before .before .before .args .heights)) (now (c .before .before .before .before .before .before .before .before .before .before .before .before .before .before .before .before .args .widths)) (now (c .before .before .before .before .before .before .before .before .before .before .before .before .before .before .before .before .args .gaps)) (now (c .before .before .before .before .before .before .before .before .before .before .before .before .before .before .before .before .args .out)) s (sym (c .before .before .before .before .before .before .before .before .before .check-lists .ensures) ∙ ap countAnswer (c .before .before .before .before .before .before .before .n .given .1)) in
-    record { lists = s; few = omega arith; room = omega (arith, from-length 7 (c .before .before .before .put-header .last .0), c .before .before .before .put-header .kept .0, c .before .before .before .before .before .if3 .left) }
+put-components-requires c κs = let n = long (now (c .before .before .before .before .before .before .before .before .before .before .before .before .before .before .before .before .before .before .args .heights)) (now (c .before .before .before .before .before .before .before .before .before .before .before .before .before .before .before .before .before .before .args .widths)) (now (c .before .before .before .before .before .before .before .before .before .before .before .before .before .before .before .before .before .before .args .gaps)) (now (c .before .before .before .before .before .before .before .before .before .before .before .before .before .before .before .before .before .before .args .marks)) (sym (c .before .before .before .before .before .before .before .before .before .check-lists .ensures) ∙ ap countAnswer (c .before .before .before .before .before .before .before .n .given .1)) in
+    let m = few (now (c .before .before .before .before .before .before .before .before .before .before .before .before .before .before .before .before .before .before .args .heights)) (now (c .before .before .before .before .before .before .before .before .before .before .before .before .before .before .before .before .before .before .args .widths)) (now (c .before .before .before .before .before .before .before .before .before .before .before .before .before .before .before .before .before .before .args .gaps)) (now (c .before .before .before .before .before .before .before .before .before .before .before .before .before .before .before .before .before .before .args .marks)) (sym (c .before .before .before .before .before .before .before .before .before .check-lists .ensures) ∙ ap countAnswer (c .before .before .before .before .before .before .before .n .given .1)) in
+    record { lists = (record { widths-long = c .before .before .before .before .before .before .before .before .before .before .before .before .if1 .left; gaps-long = c .before .before .before .before .before .before .before .before .before .before .before .if2 .left; marks-long = c .before .before .before .before .before .before .before .before .before .before .if3 .left }); few = omega arith; room = omega (arith, from-length 7 (c .before .before .before .put-header .last .0), c .before .before .before .put-header .kept .0, c .before .before .before .before .before .if4 .left) }
 
-mul-t15 : tie.Need-mul-t15
-mul-t15 c = search needs
+mul-t17 : tie.Need-mul-t17
+mul-t17 c = search needs
 
-add-t14 : tie.Need-add-t14
-add-t14 c = search needs
+add-t16 : tie.Need-add-t16
+add-t16 c = search needs
 
-returns-4 : tie.Need-returns-4
-returns-4 c = by-check _ _ _ _ (record { widths-long = c .before .before .before .before .before .if1 .left; gaps-long = c .before .before .before .before .if2 .left }) _ (sym (c .before .before .before .check-lists .ensures) ∙ ap countAnswer (c .before .k .given .1))
+returns-5 : tie.Need-returns-5
+returns-5 c = by-check _ _ _ _ _ (record { widths-long = c .before .before .before .before .before .before .if1 .left; gaps-long = c .before .before .before .before .before .if2 .left; marks-long = c .before .before .before .before .if3 .left }) _ (sym (c .before .before .before .check-lists .ensures) ∙ ap countAnswer (c .before .k .given .1))
 
 same-length : tie.Need-same-length
 same-length c = search needs
 
-returns-5 : tie.Need-returns-5
-returns-5 c = wrote (now (c .before .before .before .before .before .before .before .before .before .before .before .before .before .before .before .before .before .before .before .args .heights)) (now (c .before .before .before .before .before .before .before .before .before .before .before .before .before .before .before .before .before .before .before .args .widths)) (now (c .before .before .before .before .before .before .before .before .before .before .before .before .before .before .before .before .before .before .before .args .gaps)) (now (c .before .before .before .before .before .before .before .before .before .before .before .before .before .before .before .before .before .before .before .args .out)) (record { widths-long = c .before .before .before .before .before .before .before .before .before .before .before .before .before .before .if1 .left; gaps-long = c .before .before .before .before .before .before .before .before .before .before .before .before .before .if2 .left }) (sym (c .before .before .before .before .before .before .before .before .before .before .before .before .check-lists .ensures) ∙ ap countAnswer (c .before .before .before .before .before .before .before .before .before .before .n .given .1)) (c .before .before .before .before .before .before .put-header .last .0) _ (c .before .before .before .before .before .before .before .before .if3 .left) (c .before .before .before .before .before .before .put-header .kept .0) (c .before .before .before .before .before .before .put-header .ensures) (c .before .before .put-components .ensures)
+returns-6 : tie.Need-returns-6
+returns-6 c = wrote (now (c .before .before .before .before .before .before .before .before .before .before .before .before .before .before .before .before .before .before .before .before .before .args .heights)) (now (c .before .before .before .before .before .before .before .before .before .before .before .before .before .before .before .before .before .before .before .before .before .args .widths)) (now (c .before .before .before .before .before .before .before .before .before .before .before .before .before .before .before .before .before .before .before .before .before .args .gaps)) (now (c .before .before .before .before .before .before .before .before .before .before .before .before .before .before .before .before .before .before .before .before .before .args .marks)) (now (c .before .before .before .before .before .before .before .before .before .before .before .before .before .before .before .before .before .before .before .before .before .args .out)) (record { widths-long = c .before .before .before .before .before .before .before .before .before .before .before .before .before .before .before .if1 .left; gaps-long = c .before .before .before .before .before .before .before .before .before .before .before .before .before .before .if2 .left; marks-long = c .before .before .before .before .before .before .before .before .before .before .before .before .before .if3 .left }) (sym (c .before .before .before .before .before .before .before .before .before .before .before .before .check-lists .ensures) ∙ ap countAnswer (c .before .before .before .before .before .before .before .before .before .before .n .given .1)) (c .before .before .before .before .before .before .put-header .last .0) _ (c .before .before .before .before .before .before .before .before .if4 .left) (c .before .before .before .before .before .before .put-header .kept .0) (c .before .before .before .before .before .before .put-header .ensures) (c .before .before .put-components .ensures)
 
 pub write-spec : {M : Type 1} → statement M
 write-spec =
@@ -75,20 +76,21 @@ write-spec =
     (tie.spec
     returns
     returns-2
+    returns-3
     check-lists-requires
     enum-known-k
     enum-known-n
-    mul-if3
-    add-if3
-    returns-3
+    mul-if4
+    add-if4
+    returns-4
     cast-put-header
     put-header-requires
     sub-put-components
     part-put-components-start
     part-put-components-end
     put-components-requires
-    mul-t15
-    add-t14
-    returns-4
+    mul-t17
+    add-t16
+    returns-5
     same-length
-    returns-5)
+    returns-6)

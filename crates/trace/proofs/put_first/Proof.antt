@@ -13,7 +13,7 @@ slice-aggregate-put-group-2 : tie.Need-slice-aggregate-put-group-2
 slice-aggregate-put-group-2 c = sym (length-take-le _ _ (omega (arith, c .before .before .before .before .before .before .before .pre .within, c .before .before .before .before .before .before .before .pre .lists .same-widths)))
 
 slice-aggregate-put-group-3 : tie.Need-slice-aggregate-put-group-3
-slice-aggregate-put-group-3 c = sym (length-take-le _ _ (omega (arith, c .before .before .before .before .before .before .before .before .pre .within, c .before .before .before .before .before .before .before .before .pre .lists .same-gaps)))
+slice-aggregate-put-group-3 c = sym (length-take-le _ _ (omega (arith, c .before .before .before .before .before .before .before .before .pre .within, c .before .before .before .before .before .before .before .before .pre .lists .same-seams)))
 
 put-group-requires : tie.Need-put-group-requires
 put-group-requires c κs = first-group _ _ _ _ _ _ _ _ (c .before .before .before .before .before .before .before .before .before .before .pre)
