@@ -1,4 +1,5 @@
 // A stack without a fold, and the best layout for a height, planned and written: for the calls that write a folding.
+#![tactic(auto)]
 ghost use Rattle.std.specs.Prelude.{◌≡◌, ◌*◌, ◌<◌, length};
 ghost use Rattle.terms.specs.declared.Kind.TheVariants.{Apart};
 ghost use Rattle.terms.specs.Seams.{components_in};
@@ -12,14 +13,14 @@ use numbers::{gap, get, larger};
 use terms::{Kind, Refusal, Rows, Slices};
 
 // The cells of some components, each one's width times its height, and the height of the tallest component.
-#[derive(Drop)]
+#[derive(Clone, Copy)]
 struct Cells {
     count: u64,
     tallest: Rows,
 }
 
 // A stack without a fold: its widest and its tallest component, its height, and the cells of all its components.
-#[derive(Drop)]
+#[derive(Clone, Copy)]
 pub struct Flat {
     pub widest: Slices,
     pub tallest: Rows,

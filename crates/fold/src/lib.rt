@@ -1,4 +1,5 @@
 // Fold to height and fold to width.
+#![tactic(auto)]
 ghost use Rattle.std.specs.Prelude.{◌≡◌, ◌*◌, ◌≤◌, ◌<◌};
 ghost use Rattle.terms.specs.Numbers.{most_limit};
 ghost use Rattle.terms.specs.Answer.{count_answer};
@@ -32,7 +33,7 @@ const SECOND_RISE: u32 = 16;
 const LATER_RISE: u32 = 4;
 
 // What a search for a height found, and the limit of the plan that its lists hold. That is 0 where they hold none.
-#[derive(Drop)]
+#[derive(Clone, Copy)]
 struct Least {
     limit: Rows,
     known: Rows,

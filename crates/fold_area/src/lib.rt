@@ -1,4 +1,5 @@
 // The smallest area.
+#![tactic(auto)]
 ghost use Rattle.std.specs.Prelude.{◌≡◌, ◌*◌, ◌≤◌, ◌<◌};
 ghost use Rattle.terms.specs.Numbers.{most_limit};
 ghost use Rattle.terms.specs.Seams.{components_in};
@@ -23,7 +24,7 @@ use terms::{Counted, Kind, MOST_APART, Rows, Slices};
 const LOW: u32 = 8;
 
 // The height of the outline of smallest area, and the limit of the plan that the lists hold. That is 0 where they hold none.
-#[derive(Drop)]
+#[derive(Clone, Copy)]
 struct Found {
     height: Rows,
     known: Rows,

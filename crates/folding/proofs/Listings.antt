@@ -1,6 +1,6 @@
 -- The table of a stack: there is only one, and it has no more outlines than the widths add up to.
 use Prim.Native.Nat.{ℕ, ◌+◌, ◌≤◌, ◌<◌}
-use mathlib.Core.Path.{◌≡◌, refl, sym, ap}
+use mathlib.Core.Path.{◌≡◌, refl, sym, ap, subst}
 use mathlib.Core.Logic.{inl, inr}
 use mathlib.Core.List.{List, [], ◌∷◌}
 use native.Mathlib.Omega.{arith}
@@ -42,9 +42,9 @@ same_members [] (p ∷ ps) r s h k = absurd (k p (inl refl))
 same_members (o ∷ os) [] r s h k = absurd (h o (inl refl))
 same_members (o ∷ os) (p ∷ ps) r s h k =
     let e : o ≡ p = heads o p os ps r s (h o (inl refl)) (k p (inl refl)) in
-    let h' : (x : Outline) → Among x (o ∷ os) → Among x (o ∷ ps) = rw (sym e) at h in
-    let k' : (x : Outline) → Among x (o ∷ ps) → Among x (o ∷ os) = rw (sym e) at k in
-    let s' : Rising (o ∷ ps) = rw (sym e) at s in
+    let h' : (x : Outline) → Among x (o ∷ os) → Among x (o ∷ ps) = subst (λ (q : Outline). (x : Outline) → Among x (o ∷ os) → Among x (q ∷ ps)) (sym e) h in
+    let k' : (x : Outline) → Among x (o ∷ ps) → Among x (o ∷ os) = subst (λ (q : Outline). (x : Outline) → Among x (q ∷ ps) → Among x (o ∷ os)) (sym e) k in
+    let s' : Rising (o ∷ ps) = subst (λ (q : Outline). Rising (q ∷ ps)) (sym e) s in
     let i : os ≡ ps = same_members os ps (tail_rising o os r) (tail_rising o ps s') (tails o os ps r h') (tails o ps os s' k') in
     cc
 

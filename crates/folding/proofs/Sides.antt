@@ -1,7 +1,7 @@
 -- A group as two chains, each lowest first: the left components from the last one up to the first, and the right components
 -- in order.
 use Prim.Native.Nat.{ℕ, ◌+◌, ◌≤◌, max}
-use mathlib.Core.Path.{◌≡◌, refl, sym, ◌∙◌}
+use mathlib.Core.Path.{◌≡◌, refl, sym, ◌∙◌, subst}
 use mathlib.Core.List.{List, [], ◌∷◌, reverse_aux}
 use mathlib.Core.Bool.{Bool, true, false, true≢false}
 use native.Mathlib.Omega.{arith}
@@ -30,7 +30,7 @@ rights kind x (y ∷ a) h r = go r.1 (λ v. rights kind y a v r.3)
     go : Within x y → (left y ≡ false → Chain (end_of y) a × Members kind (group_of y) false a) → Chain (end_of x) (y ∷ a) × Members kind (group_of x) false (y ∷ a)
     go (down u v e) i = absurd (true≢false (sym u ∙ h))
     go (turn u v) i = absurd (true≢false (sym u ∙ h))
-    go (up u v e) i = let k = i v in ((e, k.0), (r.0, v, r.2, rw r.0 at k.1))
+    go (up u v e) i = let k = i v in ((e, k.0), (r.0, v, r.2, subst (λ (m : ℕ). Members kind m false a) r.0 k.1))
 
 -- The two sides of the group of x and what follows it, where `above` are the left components before x, lowest first.
 pub record Sides (kind : Kind) (above : List Placed) (x : Placed) (a : List Placed) : Type 0 where
@@ -54,7 +54,7 @@ sides kind above x [] h e r c m = record {
   left_members = (refl, h, e, m);
   right_members = tt;
 }
-sides kind above x (y ∷ a) h e r c m = go r.1 (λ v k n. sides kind (x ∷ above) y a v r.2 r.3 (k, c) (sym r.0, h, e, rw r.0 n))
+sides kind above x (y ∷ a) h e r c m = go r.1 (λ v k n. sides kind (x ∷ above) y a v r.2 r.3 (k, c) (sym r.0, h, e, subst (λ (m : ℕ). Members kind m true above) (sym r.0) n))
   where
     go : Within x y → (left y ≡ true → end_of y ≤ start_of x → Members kind (group_of x) true above → Sides kind (x ∷ above) y a) → Sides kind above x (y ∷ a)
     go (down u v k) i =
@@ -66,7 +66,7 @@ sides kind above x (y ∷ a) h e r c m = go r.1 (λ v k n. sides kind (x ∷ abo
           order = s.order;
           left_chain = s.left_chain;
           right_chain = s.right_chain;
-          left_members = rw r.0 at s.left_members;
+          left_members = subst (λ (n : ℕ). Members kind n true (s.lowest ∷ s.lefts)) r.0 s.left_members;
           right_members = rw r.0 at s.right_members;
         }
     go (turn u v) i =
@@ -79,7 +79,7 @@ sides kind above x (y ∷ a) h e r c m = go r.1 (λ v k n. sides kind (x ∷ abo
           left_chain = (omega arith, c);
           right_chain = (omega arith, k.0);
           left_members = (refl, h, e, m);
-          right_members = (r.0, v, r.2, rw r.0 at k.1);
+          right_members = (r.0, v, r.2, subst (λ (m : ℕ). Members kind m false a) r.0 k.1);
         }
     go (up u v k) i = absurd (true≢false (sym h ∙ u))
 

@@ -1,10 +1,11 @@
 // Foldings: their placements and outlines, and what measuring and choosing answer.
+#![tactic(auto)]
 use terms::{Component, Refusal, Rows, Slices};
 
 // The highest start row of a placement.
 pub const MOST_START: u32 = 1024000;
 
-#[derive(Drop)]
+#[derive(Clone, Copy)]
 pub struct Placement {
     pub group: u32,
     pub side: u32,
@@ -12,26 +13,26 @@ pub struct Placement {
 }
 
 // A component of a stack with its placement.
-#[derive(Drop)]
+#[derive(Clone, Copy)]
 pub struct Placed {
     pub component: Component,
     pub placement: Placement,
 }
 
-#[derive(Drop)]
+#[derive(Clone, Copy)]
 pub struct Outline {
     pub width: Slices,
     pub height: Rows,
 }
 
-#[derive(Drop)]
+#[derive(Clone, Copy)]
 pub enum Measured {
     Outlined(Outline),
     Refused(Refusal),
 }
 
 // The first or the second of two foldings, or neither.
-#[derive(Drop)]
+#[derive(Clone, Copy)]
 pub enum Winner {
     First,
     Second,

@@ -1,5 +1,6 @@
 // Measures foldings, flat and as structs, and chooses between them at the rules' edges, and writes what each call answers,
 // a line a case.
+#![tactic(auto)]
 ghost use Rattle.std.specs.Prelude.{◌≡◌, ◌+◌, ◌*◌, ◌≤◌, ◌<◌, length};
 ghost use Rattle.folding.specs.Calls.{measured_answer, measure_of};
 ghost use Rattle.folding.specs.Placement.{flat_of};

@@ -1,4 +1,5 @@
 // The program `folds`, on stack E.
+#![tactic(auto)]
 fn main() {
     folds_main::run();
 }

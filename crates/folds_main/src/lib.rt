@@ -1,5 +1,6 @@
 // The program `folds`, as a function, so that the gate can run it on several inputs. What it prints no contract can say;
 // the programs' stored output does.
+#![tactic(auto)]
 ghost use Rattle.std.specs.Prelude.{◌*◌, ◌≤◌, length};
 
 use terms::{Counted, Kind, LEAST_WORK};

@@ -1,4 +1,5 @@
 // The program `folds` on 242 components whose apart table has 2,049 outlines, one more than there is room for.
+#![tactic(auto)]
 fn main() {
     folds_main::run();
 }

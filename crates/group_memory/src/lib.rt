@@ -1,6 +1,7 @@
 // What is known of a group from earlier searches. The groups of a stack are asked for again and again while the limit falls,
 // and what was found for a limit holds for the lower ones: an answer that keeps them stands without a search, and one that
 // does not is still a bound from below. Each group has a word of its own in the work buffer, behind the table of the search.
+#![tactic(auto)]
 ghost use Rattle.std.specs.Prelude.{◌≡◌, ◌<◌};
 ghost use Rattle.group_search.specs.Widths.{Narrow};
 ghost use Rattle.group_memory.specs.Memory.{widths, heights, word_width, word_height, MemoryAsks, Remembered};

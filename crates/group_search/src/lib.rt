@@ -1,5 +1,6 @@
 // The least width of one group for a height. Its least height under a cap is searched from the folds outwards, in one table
 // for all folds.
+#![tactic(auto)]
 ghost use Rattle.std.specs.Prelude.{◌≡◌, ◌+◌, ◌≤◌, ◌<◌, length};
 ghost use Rattle.group_table.specs.Inner.{Low};
 ghost use Rattle.group_search.specs.Inner.{Bordered, WalkAsks, Walked, Stopped, OfferAsks, Offered};
@@ -15,7 +16,7 @@ use numbers::{STRIDE, cell, gap, get, larger, lesser};
 use terms::{Rows, Slices};
 
 // The width of a group, its height there, and a width below which every cap is too narrow.
-#[derive(Drop)]
+#[derive(Clone, Copy)]
 pub struct Fit {
     pub width: Slices,
     pub height: Rows,
@@ -23,7 +24,7 @@ pub struct Fit {
 }
 
 // A height, and the caps for which it is the same: from `fit` to below `clash`.
-#[derive(Drop)]
+#[derive(Clone, Copy)]
 struct Run {
     height: Rows,
     fit: Slices,
@@ -31,7 +32,7 @@ struct Run {
 }
 
 // Where a walk stops: the first `left` components are still to be placed from row a on, those from `right` on from row b on.
-#[derive(Drop)]
+#[derive(Clone, Copy)]
 struct Stop {
     left: usize,
     right: usize,

@@ -1,4 +1,5 @@
 // Writes the placements of one group, with the fold where the table of the group has found it.
+#![tactic(auto)]
 ghost use Rattle.std.specs.Prelude.{◌≡◌, ◌∷◌, ◌++◌, ◌+◌, ◌*◌, ◌<◌, length, take, drop};
 ghost use Rattle.terms.specs.Numbers.{most_apart};
 ghost use Rattle.group.specs.Table.{bare};
@@ -8,7 +9,7 @@ use numbers::{cell, get};
 use terms::Slices;
 
 // Which side the next component goes to, and the rows where the sides go on.
-#[derive(Drop)]
+#[derive(Clone, Copy)]
 struct Turn {
     left: bool,
     a: u32,

@@ -1,4 +1,5 @@
 // The best layouts of a stack for a height, from its last component to its first.
+#![tactic(auto)]
 ghost use Rattle.std.specs.Prelude.{true, ◌≡◌, ◌+◌, ◌*◌, ◌≤◌, ◌<◌, length, get_or, take, drop};
 ghost use Rattle.numbers.specs.Table.{cells};
 ghost use Rattle.terms.specs.Numbers.{most_apart, most_limit};
@@ -18,7 +19,7 @@ use numbers::{CELLS, barred, gap, larger, lesser, wide};
 use terms::{Kind, MOST_APART, Rows, Slices};
 
 // A layout: its width, its height, and how many components its first group has. A width of NONE means that there is none.
-#[derive(Drop)]
+#[derive(Clone, Copy)]
 struct Best {
     width: Slices,
     height: Rows,
@@ -26,7 +27,7 @@ struct Best {
 }
 
 // The rows of some components without empty rows between them, and the greatest of their widths.
-#[derive(Drop)]
+#[derive(Clone, Copy)]
 pub struct Sizes {
     pub tall: Rows,
     pub widest: Slices,

@@ -1,4 +1,5 @@
 // The calls for C and Rust: numbers and slices only.
+#![tactic(auto)]
 ghost use Rattle.std.specs.Prelude.{◌≡◌, take, drop};
 ghost use Rattle.terms.specs.Answer.{count_answer};
 ghost use Rattle.terms.specs.Component.{count_of};
@@ -18,7 +19,7 @@ use terms::{Counted, Kind, Rows, Slices};
 
 // A refusal and 0, or 0 and a number of components, bytes or pairs.
 #[repr(C)]
-#[derive(Drop)]
+#[derive(Clone, Copy)]
 pub struct Count {
     pub refusal: u32,
     pub count: usize,
@@ -26,7 +27,7 @@ pub struct Count {
 
 // A refusal with width and height 0, or 0 and an outline.
 #[repr(C)]
-#[derive(Drop)]
+#[derive(Clone, Copy)]
 pub struct Extent {
     pub refusal: u32,
     pub width: u32,
@@ -35,7 +36,7 @@ pub struct Extent {
 
 // A part of a lent buffer; the empty part starts at 0.
 #[repr(C)]
-#[derive(Drop)]
+#[derive(Clone, Copy)]
 pub struct Part {
     pub start: usize,
     pub length: usize,

@@ -1,5 +1,6 @@
 // Runs the ten calls as C receives them, on stack E, on E with a fold barred and on refused files, and writes their numbers,
 // a line a case.
+#![tactic(auto)]
 use stack_folds::{Count, Extent, Part};
 use terms::LEAST_WORK;
 

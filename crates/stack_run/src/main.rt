@@ -1,4 +1,5 @@
 // Runs the calls on stack files at their edges and writes what each answers, a line a case.
+#![tactic(auto)]
 ghost use Rattle.std.specs.Prelude.{◌+◌, ◌≤◌, ◌<◌, length};
 
 use terms::{Counted, Kind, Refusal};

@@ -1,4 +1,5 @@
 // The terms that every call shares: components, rows and slices, kinds, refusals, positions.
+#![tactic(auto)]
 ghost use Rattle.std.specs.Prelude.{◌≡◌, true};
 ghost use Rattle.terms.specs.Answer.{number_of};
 ghost use Rattle.terms.specs.Component.{in_size, most_of, good_size, good_gap, good_mark, rule_of};
@@ -19,14 +20,14 @@ pub const MOST_LIMIT: u32 = 2000000;
 pub const LEAST_WORK: usize = 8192;
 
 // Heights and gaps count rows.
-#[derive(Drop)]
+#[derive(Clone, Copy)]
 pub struct Rows(pub u32);
 
 // Widths count slices.
-#[derive(Drop)]
+#[derive(Clone, Copy)]
 pub struct Slices(pub u32);
 
-#[derive(Drop)]
+#[derive(Clone, Copy)]
 pub struct Component {
     pub height: Rows,
     pub width: Slices,
@@ -36,14 +37,14 @@ pub struct Component {
 }
 
 // Whether a call folds nested. It takes fewer components then.
-#[derive(Drop)]
+#[derive(Clone, Copy)]
 pub enum Kind {
     Apart,
     Nested,
 }
 
 // The refusals by their trade words, in the order of their numbers.
-#[derive(Drop)]
+#[derive(Clone, Copy)]
 pub enum Refusal {
     WrongFile,
     WrongVersion,
@@ -59,14 +60,14 @@ pub enum Refusal {
 }
 
 // What a call answers that counts components, bytes or pairs.
-#[derive(Drop)]
+#[derive(Clone, Copy)]
 pub enum Counted {
     Count(usize),
     Refused(Refusal),
 }
 
 // Where reading stands: how many components lie before.
-#[derive(Drop)]
+#[derive(Clone, Copy)]
 pub struct Position {
     pub before: usize,
 }
@@ -130,7 +131,7 @@ fn in_size(x: u32) -> bool
 }
 
 // What refusals 5, 6 and 11 ask of each component.
-#[derive(Drop)]
+#[derive(Clone, Copy)]
 pub enum Rule {
     Size,
     Gap,

@@ -2,13 +2,14 @@
 // each outline and between outlines, and counts: as the file that the line lists, and as the file that the writer makes of it.
 // A line: components as height/width/gap, the apart table, the nested table, apart by bars. Where components are
 // height/width/gap/mark, the smallest area apart, nested and the sum of the components' cells follow; the sum is not asked for.
+#![tactic(auto)]
 ghost use Rattle.std.specs.Prelude.{◌+◌, ◌*◌, ◌/◌, ◌≤◌, ◌<◌, length};
 
 use folding::Measured;
 use terms::{Counted, Kind, LEAST_WORK, MOST_LIMIT, Rows, Slices};
 
 // What was compared, and what was not as listed.
-#[derive(Drop)]
+#[derive(Clone, Copy)]
 struct Tally {
     compared: u32,
     wrong: u32,
@@ -71,7 +72,7 @@ fn put(out: &mut [u32], at: usize, n: u32) -> usize
 }
 
 // The numbers found so far, and the one that is being read.
-#[derive(Drop)]
+#[derive(Clone, Copy)]
 struct Reading {
     found: usize,
     n: u32,

@@ -1,0 +1,12 @@
+use Prim.Native.Nat.{◌-◌}
+use lib.ListN.{length-set}
+use mathlib.Core.Path.{◌∙◌}
+use Rattle.group_search.proofs.Turns.{Far, far_start, far_next, far_ends}
+use native.Mathlib.Omega.{arith}
+use Rattle.group_search.proofs.clear_row.Given as goal
+
+abbrev pub invariant-loop-q : goal.invariant-loop-q
+invariant-loop-q l = Far l.m l.initial.e l.e l.p l.q
+
+abbrev pub decreases-loop-q : goal.decreases-loop-q
+decreases-loop-q l = l.m - l.q

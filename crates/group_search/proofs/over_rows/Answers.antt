@@ -1,0 +1,17 @@
+use Rattle.group_search.proofs.Turns.{AllRows, rows_start, row_asks, row_done, rows_end}
+use native.Mathlib.Omega.{arith}
+use Rattle.group_search.proofs.over_rows.Goals as goal
+
+pub loop-p-init : goal.loop-p-init
+loop-p-init c = rows_start c.requires
+
+pub over_row-best-requires : goal.over_row-best-requires
+over_row-best-requires c = row_asks c.requires c.loop-p.invariant c.loop-p-test.true
+
+pub loop-p-preserved : goal.loop-p-preserved
+loop-p-preserved c = row_done c.requires c.loop-p.invariant c.over_row-best.auto.e c.loop-p-test.true c.over_row-best.ensures
+
+-- NOGOAL same-length: c.before.loop.invariant.long
+
+pub returns : goal.returns
+returns c = rows_end c.requires c.loop-p.invariant c.loop-p-test.false

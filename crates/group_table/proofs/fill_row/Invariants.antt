@@ -1,0 +1,10 @@
+use Rattle.group_table.proofs.Filling.{Row, row_start, row_ready, row_stored, row_ends}
+use native.Mathlib.Omega.{arith}
+use borrow.Author.Rules.{rules}
+use Rattle.group_table.proofs.fill_row.Given as goal
+
+abbrev pub invariant-loop-q : goal.invariant-loop-q
+invariant-loop-q l = Row l.h l.w l.initial.e l.e l.cap.0 l.p l.q
+
+abbrev pub decreases-loop-q : goal.decreases-loop-q
+decreases-loop-q l = l.q

@@ -1,0 +1,12 @@
+use lib.ListN.{length-set}
+use Rattle.group_table.proofs.Filling.{Top, top_start, top_stored, top_ends}
+use native.Mathlib.Omega.{arith}
+use mathlib.Core.Path.{◌∙◌}
+use borrow.Author.Rules.{rules}
+use Rattle.group_table.proofs.fill_top.Given as goal
+
+abbrev pub invariant-loop-q : goal.invariant-loop-q
+invariant-loop-q l = Top l.h l.initial.e l.e l.q
+
+abbrev pub decreases-loop-q : goal.decreases-loop-q
+decreases-loop-q l = l.q

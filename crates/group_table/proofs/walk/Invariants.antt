@@ -1,0 +1,12 @@
+use Prim.Native.Nat.{◌+◌, ◌-◌}
+use lib.ListN.{length}
+use Rattle.group_table.proofs.Walking.{Walking, walk_start, ending, walk_ends, to_left, to_right}
+use native.Mathlib.Omega.{arith}
+use borrow.Author.Rules.{rules}
+use Rattle.group_table.proofs.walk.Given as goal
+
+abbrev pub invariant-loop-cap : goal.invariant-loop-cap
+invariant-loop-cap l = Walking l.h l.w l.p l.q l.cap.0 l.x l.y l.a l.b
+
+abbrev pub decreases-loop-cap : goal.decreases-loop-cap
+decreases-loop-cap l = l.x + (length l.h - l.y)

@@ -1,0 +1,6 @@
+use mathlib.Core.Path.{◌∙◌}
+use borrow.Author.Rules.{rules}
+use Rattle.measure.proofs.better_of.Goals as goal
+
+pub returns : goal.returns
+returns c = c.better.ensures ∙ rw (c.measure_first-a.ensures, c.measure_first-b.ensures)
