@@ -1,5 +1,6 @@
 // A stack without a fold, and the best layout for a height, planned and written: for the calls that write a folding.
 #![tactic(auto)]
+
 ghost use Rattle.std.specs.Prelude.{◌≡◌, ◌*◌, ◌<◌, length};
 ghost use Rattle.terms.specs.declared.Kind.TheVariants.{Apart};
 ghost use Rattle.terms.specs.Seams.{components_in};

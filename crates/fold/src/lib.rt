@@ -1,5 +1,6 @@
 // Fold to height and fold to width.
 #![tactic(auto)]
+
 ghost use Rattle.std.specs.Prelude.{◌≡◌, ◌*◌, ◌≤◌, ◌<◌};
 ghost use Rattle.terms.specs.Numbers.{most_limit};
 ghost use Rattle.terms.specs.Answer.{count_answer};

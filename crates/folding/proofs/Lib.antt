@@ -11,3 +11,4 @@ pub mod InLists
 pub mod WidthSum
 pub mod Cells
 pub mod Listings
+pub mod Rivals

@@ -5,5 +5,4 @@ pub mod StartRows
 pub mod Best
 pub mod Calls
 pub mod Asks
-mod Examples
-mod Rivals
+pub mod Examples

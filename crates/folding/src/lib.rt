@@ -1,5 +1,6 @@
 // Foldings: their placements and outlines, and what measuring and choosing answer.
 #![tactic(auto)]
+
 use terms::{Component, Refusal, Rows, Slices};
 
 // The highest start row of a placement.

@@ -1,38 +1,39 @@
 // Measures foldings, flat and as structs, and chooses between them at the rules' edges, and writes what each call answers,
 // a line a case.
 #![tactic(auto)]
+
 ghost use Rattle.std.specs.Prelude.{◌≡◌, ◌+◌, ◌*◌, ◌≤◌, ◌<◌, length};
 ghost use Rattle.folding.specs.Calls.{measured_answer, measure_of};
 ghost use Rattle.folding.specs.Placement.{flat_of};
 
 use folding::{Measured, Placement};
+use std::io::{self, BufWriter, Write};
 use terms::Kind;
 
-fn say(text: &[u8]) {
-    io::write_all(1, text);
+fn say(out: &mut impl Write, text: &[u8]) -> io::Result<()> {
+    out.write_all(text)
 }
 
-fn say_number(n: u32) {
-    say(b" ");
-    io::print_decimal(1, n as u64);
+fn say_number(out: &mut impl Write, n: u32) -> io::Result<()> {
+    write!(out, " {n}")
 }
 
-fn say_measured(a: Measured) {
+fn say_measured(out: &mut impl Write, a: Measured) -> io::Result<()> {
     match a {
         Measured::Outlined(o) => {
-            say_number(o.width.0);
-            say_number(o.height.0);
+            say_number(out, o.width.0)?;
+            say_number(out, o.height.0)
         }
         Measured::Refused(k) => {
-            say(b" refused");
-            say_number(k.number());
+            say(out, b" refused")?;
+            say_number(out, k.number())
         }
     }
 }
 
-fn say_line(a: Measured) {
-    say_measured(a);
-    say(b"\n");
+fn say_line(out: &mut impl Write, a: Measured) -> io::Result<()> {
+    say_measured(out, a)?;
+    say(out, b"\n")
 }
 
 // Heights 3, 1, 2, 4, widths 1, gaps 0.
@@ -54,214 +55,252 @@ const BARRED: [u8; 39] =
 const BARRED_GAPPED: [u8; 31] =
     *b"STK\x02\x00\x03\x00\x02\x00\x04\x00\x07\x00\x01\x00\x03\x00\x05\x00\x08\x00\x00\x00\x01\x00\x06\x00\x00\x00\x00\x00";
 
-fn plain_case(label: &[u8], kind: Kind, flat: &[u32]) {
-    say(label);
-    say_line(measure::measure(&PLAIN, kind, flat));
+fn plain_case(out: &mut impl Write, label: &[u8], kind: Kind, flat: &[u32]) -> io::Result<()> {
+    say(out, label)?;
+    say_line(out, measure::measure(&PLAIN, kind, flat))
 }
 
-fn gapped_case(label: &[u8], kind: Kind, flat: &[u32]) {
-    say(label);
-    say_line(measure::measure(&GAPPED, kind, flat));
+fn gapped_case(out: &mut impl Write, label: &[u8], kind: Kind, flat: &[u32]) -> io::Result<()> {
+    say(out, label)?;
+    say_line(out, measure::measure(&GAPPED, kind, flat))
 }
 
-fn barred_case(label: &[u8], kind: Kind, flat: &[u32]) {
-    say(b"barred, ");
-    say(label);
-    say_line(measure::measure(&BARRED, kind, flat));
+fn barred_case(out: &mut impl Write, label: &[u8], kind: Kind, flat: &[u32]) -> io::Result<()> {
+    say(out, b"barred, ")?;
+    say(out, label)?;
+    say_line(out, measure::measure(&BARRED, kind, flat))
 }
 
-fn range_cases() {
+fn range_cases(out: &mut impl Write) -> io::Result<()> {
     plain_case(
+        out,
         b"one group",
         Kind::Apart,
         &[0, 0, 7, 0, 0, 6, 0, 0, 4, 0, 0, 0],
-    );
+    )?;
     plain_case(
+        out,
         b"side 2",
         Kind::Nested,
         &[0, 0, 7, 0, 0, 6, 0, 0, 4, 0, 2, 0],
-    );
+    )?;
     plain_case(
+        out,
         b"start 1024000",
         Kind::Apart,
         &[0, 0, 1024000, 0, 0, 6, 0, 0, 4, 0, 0, 0],
-    );
+    )?;
     plain_case(
+        out,
         b"start 1024001",
         Kind::Apart,
         &[0, 0, 1024001, 0, 0, 6, 0, 0, 4, 0, 0, 0],
-    );
+    )?;
     plain_case(
+        out,
         b"start 4294967295",
         Kind::Apart,
         &[0, 0, 4294967295, 0, 0, 6, 0, 0, 4, 0, 0, 0],
-    );
+    )
 }
 
-fn order_cases() {
+fn order_cases(out: &mut impl Write) -> io::Result<()> {
     plain_case(
+        out,
         b"first group 1",
         Kind::Apart,
         &[1, 0, 7, 1, 0, 6, 1, 0, 4, 1, 0, 0],
-    );
+    )?;
     plain_case(
+        out,
         b"group skipped",
         Kind::Apart,
         &[0, 0, 1, 0, 0, 0, 2, 0, 4, 2, 0, 0],
-    );
+    )?;
     plain_case(
+        out,
         b"group again",
         Kind::Apart,
         &[0, 0, 0, 1, 0, 0, 0, 0, 0, 1, 0, 0],
-    );
+    )?;
     plain_case(
+        out,
         b"group 4294967295",
         Kind::Apart,
         &[0, 0, 0, 4294967295, 0, 0, 0, 0, 0, 1, 0, 0],
-    );
+    )?;
     plain_case(
+        out,
         b"each its own group",
         Kind::Apart,
         &[0, 0, 0, 1, 0, 0, 2, 0, 0, 3, 0, 0],
-    );
+    )
 }
 
-fn side_cases() {
+fn side_cases(out: &mut impl Write) -> io::Result<()> {
     plain_case(
+        out,
         b"first on the right",
         Kind::Nested,
         &[0, 1, 0, 0, 1, 3, 0, 1, 4, 0, 1, 6],
-    );
+    )?;
     plain_case(
+        out,
         b"second group on the right",
         Kind::Nested,
         &[0, 0, 0, 1, 1, 0, 1, 1, 1, 1, 1, 3],
-    );
+    )?;
     plain_case(
+        out,
         b"left after right",
         Kind::Nested,
         &[0, 0, 0, 0, 1, 0, 0, 0, 0, 0, 1, 1],
-    );
+    )?;
     plain_case(
+        out,
         b"right in nested",
         Kind::Nested,
         &[0, 0, 1, 0, 0, 0, 0, 1, 0, 0, 1, 2],
-    );
+    )?;
     plain_case(
+        out,
         b"right in apart",
         Kind::Apart,
         &[0, 0, 1, 0, 0, 0, 0, 1, 0, 0, 1, 2],
-    );
+    )
 }
 
-fn start_cases() {
+fn start_cases(out: &mut impl Write) -> io::Result<()> {
     plain_case(
+        out,
         b"left touching",
         Kind::Apart,
         &[0, 0, 1, 0, 0, 0, 1, 0, 4, 1, 0, 0],
-    );
+    )?;
     plain_case(
+        out,
         b"left overlapping",
         Kind::Apart,
         &[0, 0, 0, 0, 0, 0, 1, 0, 4, 1, 0, 0],
-    );
+    )?;
     plain_case(
+        out,
         b"left with empty rows",
         Kind::Apart,
         &[0, 0, 9, 0, 0, 2, 1, 0, 20, 1, 0, 3],
-    );
+    )?;
     plain_case(
+        out,
         b"right overlapping",
         Kind::Nested,
         &[0, 0, 1, 0, 0, 0, 0, 1, 0, 0, 1, 1],
-    );
+    )?;
     plain_case(
+        out,
         b"right with empty rows",
         Kind::Nested,
         &[0, 0, 1, 0, 0, 0, 0, 1, 5, 0, 1, 9],
-    );
+    )
 }
 
 // What gaps add: g0 and g1 without a fold, the larger of them and the fold's gap with one.
-fn gap_cases() {
-    gapped_case(b"no fold", Kind::Apart, &[0, 0, 4, 0, 0, 1, 0, 0, 0]);
-    gapped_case(b"three groups", Kind::Apart, &[0, 0, 0, 1, 0, 0, 2, 0, 0]);
+fn gap_cases(out: &mut impl Write) -> io::Result<()> {
+    gapped_case(out, b"no fold", Kind::Apart, &[0, 0, 4, 0, 0, 1, 0, 0, 0])?;
     gapped_case(
+        out,
+        b"three groups",
+        Kind::Apart,
+        &[0, 0, 0, 1, 0, 0, 2, 0, 0],
+    )?;
+    gapped_case(
+        out,
         b"fold after the first",
         Kind::Nested,
         &[0, 0, 0, 0, 1, 0, 0, 1, 3],
-    );
+    )?;
     gapped_case(
+        out,
         b"fold after the second",
         Kind::Nested,
         &[0, 0, 3, 0, 0, 0, 0, 1, 0],
-    );
+    )?;
     gapped_case(
+        out,
         b"fold in the second group",
         Kind::Nested,
         &[0, 0, 0, 1, 0, 0, 1, 1, 0],
-    );
+    )?;
     gapped_case(
+        out,
         b"sides above each other",
         Kind::Nested,
         &[0, 0, 0, 0, 1, 2, 0, 1, 5],
-    );
+    )
 }
 
 // Each way to part a barred component from its successor.
-fn parted_cases() {
+fn parted_cases(out: &mut impl Write) -> io::Result<()> {
     barred_case(
+        out,
         b"two groups",
         Kind::Apart,
         &[0, 0, 1, 0, 0, 0, 1, 0, 4, 1, 0, 0],
-    );
+    )?;
     barred_case(
+        out,
         b"two groups in nested",
         Kind::Nested,
         &[0, 0, 0, 0, 1, 0, 1, 0, 4, 1, 0, 0],
-    );
+    )?;
     barred_case(
+        out,
         b"two sides",
         Kind::Nested,
         &[0, 0, 1, 0, 0, 0, 0, 1, 0, 0, 1, 2],
-    );
+    )?;
     barred_case(
+        out,
         b"two sides of the second group",
         Kind::Nested,
         &[0, 0, 0, 1, 0, 0, 1, 1, 0, 1, 1, 2],
-    );
+    )
 }
 
 // The two together, with empty rows between them, and with groups and folds around them. Their gap counts for nothing.
-fn unparted_cases() {
+fn unparted_cases(out: &mut impl Write) -> io::Result<()> {
     barred_case(
+        out,
         b"empty rows on the left",
         Kind::Apart,
         &[0, 0, 9, 0, 0, 8, 0, 0, 4, 1, 0, 0],
-    );
+    )?;
     barred_case(
+        out,
         b"empty rows on the right",
         Kind::Nested,
         &[0, 0, 0, 0, 1, 0, 0, 1, 4, 0, 1, 6],
-    );
+    )?;
     barred_case(
+        out,
         b"a group of their own",
         Kind::Apart,
         &[0, 0, 0, 1, 0, 2, 1, 0, 0, 2, 0, 0],
-    );
+    )?;
     barred_case(
+        out,
         b"a fold before",
         Kind::Nested,
         &[0, 0, 0, 0, 1, 0, 0, 1, 1, 1, 0, 0],
-    );
+    )?;
     barred_case(
+        out,
         b"a fold behind",
         Kind::Nested,
         &[0, 0, 3, 0, 0, 2, 0, 0, 0, 0, 1, 0],
-    );
+    )
 }
 
-fn written_case() {
+fn written_case(out: &mut impl Write) -> io::Result<()> {
     let mut file = [0u8; 39];
     stack_write::write(
         &[3, 1, 2, 4],
@@ -270,22 +309,27 @@ fn written_case() {
         &[0, 1, 0, 0],
         &mut file,
     );
-    say(b"barred, as written");
-    say_line(measure::measure(&file, Kind::Apart, &[0, 0, 1, 0, 0, 0, 1, 0, 4, 1, 0, 0]));
+    say(out, b"barred, as written")?;
+    say_line(
+        out,
+        measure::measure(&file, Kind::Apart, &[0, 0, 1, 0, 0, 0, 1, 0, 4, 1, 0, 0]),
+    )
 }
 
-fn length_cases() {
+fn length_cases(out: &mut impl Write) -> io::Result<()> {
     gapped_case(
+        out,
         b"an incomplete placement",
         Kind::Apart,
         &[0, 0, 4, 0, 0, 1, 0, 0],
-    );
+    )?;
     gapped_case(
+        out,
         b"more numbers",
         Kind::Apart,
         &[0, 0, 4, 0, 0, 1, 0, 0, 0, 9, 9, 9, 9],
-    );
-    gapped_case(b"no numbers", Kind::Apart, &[]);
+    )?;
+    gapped_case(out, b"no numbers", Kind::Apart, &[])
 }
 
 // Each component in a group of its own.
@@ -301,32 +345,32 @@ fn number_groups(flat: &mut [u32], n: u32)
     }
 }
 
-fn nested_64() {
+fn nested_64(out: &mut impl Write) -> io::Result<()> {
     let ones = [1u16; 64];
     let zeros = [0u16; 64];
     let mut file = [0u8; 519];
     stack_write::write(&ones, &ones, &zeros, &zeros, &mut file);
     let mut flat = [0u32; 192];
     number_groups(&mut flat, 64);
-    say(b"64 nested");
-    say_line(measure::measure(&file, Kind::Nested, &flat));
+    say(out, b"64 nested")?;
+    say_line(out, measure::measure(&file, Kind::Nested, &flat))
 }
 
-fn apart_256() {
+fn apart_256(out: &mut impl Write) -> io::Result<()> {
     let ones = [1u16; 256];
     let zeros = [0u16; 256];
     let mut file = [0u8; 2055];
     stack_write::write(&ones, &ones, &zeros, &zeros, &mut file);
     let mut flat = [0u32; 768];
     number_groups(&mut flat, 256);
-    say(b"256 apart");
-    say_line(measure::measure(&file, Kind::Apart, &flat));
-    say(b"256 nested");
-    say_line(measure::measure(&file, Kind::Nested, &flat));
+    say(out, b"256 apart")?;
+    say_line(out, measure::measure(&file, Kind::Apart, &flat))?;
+    say(out, b"256 nested")?;
+    say_line(out, measure::measure(&file, Kind::Nested, &flat))
 }
 
 // The size is refused before a component is looked at.
-fn too_many() {
+fn too_many(out: &mut impl Write) -> io::Result<()> {
     let mut file = [0u8; 1549];
     file[0] = b'S';
     file[1] = b'T';
@@ -334,133 +378,138 @@ fn too_many() {
     file[3] = 1;
     file[5] = 1;
     file[6] = 1;
-    say(b"257 apart");
-    say_line(measure::measure(&file, Kind::Apart, &[]));
+    say(out, b"257 apart")?;
+    say_line(out, measure::measure(&file, Kind::Apart, &[]))
 }
 
-fn nested_65() {
+fn nested_65(out: &mut impl Write) -> io::Result<()> {
     let ones = [1u16; 65];
     let zeros = [0u16; 65];
     let mut file = [0u8; 527];
     stack_write::write(&ones, &ones, &zeros, &zeros, &mut file);
     let mut flat = [0u32; 195];
     number_groups(&mut flat, 65);
-    say(b"65 nested");
-    say_line(measure::measure(&file, Kind::Nested, &flat));
-    say(b"65 apart");
-    say_line(measure::measure(&file, Kind::Apart, &flat));
+    say(out, b"65 nested")?;
+    say_line(out, measure::measure(&file, Kind::Nested, &flat))?;
+    say(out, b"65 apart")?;
+    say_line(out, measure::measure(&file, Kind::Apart, &flat))
 }
 
-fn say_list(list: &[u32]) {
+fn say_list(out: &mut impl Write, list: &[u32]) -> io::Result<()> {
     let mut i = 0;
     while i < list.len() {
-        say_number(list[i]);
+        say_number(out, list[i])?;
         i += 1;
     }
-    say(b"\n");
+    say(out, b"\n")
 }
 
-fn choose_case<'a>(label: &[u8], kind: Kind, first: &'a [u32], second: &'a [u32]) {
-    say(label);
-    say_list(measure::choose(&GAPPED, kind, first, second));
+fn choose_case<'a>(
+    out: &mut impl Write,
+    label: &[u8],
+    kind: Kind,
+    first: &'a [u32],
+    second: &'a [u32],
+) -> io::Result<()> {
+    say(out, label)?;
+    say_list(out, measure::choose(&GAPPED, kind, first, second))
 }
 
-fn choose_cases() {
+// Of one group, `high` with an empty row that `low` lacks, and of three groups.
+fn choose_cases(out: &mut impl Write) -> io::Result<()> {
+    let low = [0, 0, 4, 0, 0, 1, 0, 0, 0];
+    let high = [0, 0, 5, 0, 0, 1, 0, 0, 0];
+    let groups = [0, 0, 0, 1, 0, 0, 2, 0, 0];
+    choose_case(out, b"narrower first", Kind::Apart, &low, &groups)?;
+    choose_case(out, b"narrower second", Kind::Apart, &groups, &low)?;
+    choose_case(out, b"lower first", Kind::Apart, &low, &high)?;
+    choose_case(out, b"lower second", Kind::Apart, &high, &low)?;
     choose_case(
-        b"narrower first",
-        Kind::Apart,
-        &[0, 0, 4, 0, 0, 1, 0, 0, 0],
-        &[0, 0, 0, 1, 0, 0, 2, 0, 0],
-    );
-    choose_case(
-        b"narrower second",
-        Kind::Apart,
-        &[0, 0, 0, 1, 0, 0, 2, 0, 0],
-        &[0, 0, 4, 0, 0, 1, 0, 0, 0],
-    );
-    choose_case(
-        b"lower first",
-        Kind::Apart,
-        &[0, 0, 4, 0, 0, 1, 0, 0, 0],
-        &[0, 0, 5, 0, 0, 1, 0, 0, 0],
-    );
-    choose_case(
-        b"lower second",
-        Kind::Apart,
-        &[0, 0, 5, 0, 0, 1, 0, 0, 0],
-        &[0, 0, 4, 0, 0, 1, 0, 0, 0],
-    );
-    choose_case(
+        out,
         b"equal",
         Kind::Apart,
-        &[0, 0, 5, 0, 0, 1, 0, 0, 0],
+        &high,
         &[0, 0, 5, 0, 0, 2, 0, 0, 1],
-    );
+    )?;
     choose_case(
+        out,
         b"wider and lower second",
         Kind::Apart,
         &[0, 0, 29, 0, 0, 1, 0, 0, 0],
-        &[0, 0, 0, 1, 0, 0, 2, 0, 0],
-    );
+        &groups,
+    )
 }
 
-fn refused_choose_cases() {
+fn refused_choose_cases(out: &mut impl Write) -> io::Result<()> {
     choose_case(
+        out,
         b"broken first",
         Kind::Apart,
         &[0, 0, 0, 0, 0, 1, 0, 0, 0],
         &[0, 0, 4, 0, 0, 1, 0, 0, 0],
-    );
+    )?;
     choose_case(
+        out,
         b"broken second",
         Kind::Apart,
         &[0, 0, 4, 0, 0, 1, 0, 0, 0],
         &[0, 0, 0, 0, 0, 1, 0, 0, 0],
-    );
+    )?;
     choose_case(
+        out,
         b"short second",
         Kind::Apart,
         &[0, 0, 4, 0, 0, 1, 0, 0, 0],
         &[0, 0, 4],
-    );
+    )?;
     choose_case(
+        out,
         b"longer buffers",
         Kind::Apart,
         &[0, 0, 0, 1, 0, 0, 2, 0, 0, 8],
         &[0, 0, 4, 0, 0, 1, 0, 0, 0, 9, 9],
-    );
+    )
 }
 
-fn barred_choice<'a>(label: &[u8], first: &'a [u32], second: &'a [u32]) {
-    say(b"barred, ");
-    say(label);
-    say_list(measure::choose(&BARRED, Kind::Apart, first, second));
+fn barred_choice<'a>(
+    out: &mut impl Write,
+    label: &[u8],
+    first: &'a [u32],
+    second: &'a [u32],
+) -> io::Result<()> {
+    say(out, b"barred, ")?;
+    say(out, label)?;
+    say_list(out, measure::choose(&BARRED, Kind::Apart, first, second))
 }
 
-fn barred_choices() {
+fn barred_choices(out: &mut impl Write) -> io::Result<()> {
     barred_choice(
+        out,
         b"empty rows first",
         &[0, 0, 9, 0, 0, 8, 0, 0, 4, 0, 0, 0],
         &[0, 0, 3, 0, 0, 2, 0, 0, 0, 1, 0, 0],
-    );
+    )?;
     barred_choice(
+        out,
         b"empty rows second",
         &[0, 0, 0, 1, 0, 2, 1, 0, 0, 2, 0, 0],
         &[0, 0, 9, 0, 0, 8, 0, 0, 4, 1, 0, 0],
-    );
+    )?;
     barred_choice(
+        out,
         b"parted first",
         &[0, 0, 1, 0, 0, 0, 1, 0, 4, 1, 0, 0],
         &[0, 0, 3, 0, 0, 2, 0, 0, 0, 1, 0, 0],
-    );
+    )?;
     barred_choice(
+        out,
         b"parted second",
         &[0, 0, 3, 0, 0, 2, 0, 0, 0, 1, 0, 0],
         &[0, 0, 1, 0, 0, 0, 1, 0, 4, 1, 0, 0],
-    );
+    )
 }
 
-// No other function here has placements behind a reference.
+// Placements of a caller of the library, which takes them behind a reference.
 fn lend(file: &[u8], kind: Kind, run: [Placement; 3]) -> Measured
     ensures { measured_answer result ≡ measure_of kind file.now (flat_of run) }
 {
@@ -476,162 +525,186 @@ fn place(group: u32, side: u32, start: u32) -> Placement {
 }
 
 // The same folding through the entry that takes placements and through the flat one.
-fn structs_case(label: &[u8], file: &[u8], kind: Kind, a: Placement, b: Placement, c: Placement) {
-    say(b"structs, ");
-    say(label);
-    say_measured(lend(file, kind, [a, b, c]));
-    say(b",");
+fn structs_case(
+    out: &mut impl Write,
+    label: &[u8],
+    file: &[u8],
+    kind: Kind,
+    a: Placement,
+    b: Placement,
+    c: Placement,
+) -> io::Result<()> {
+    say(out, b"structs, ")?;
+    say(out, label)?;
+    say_measured(out, lend(file, kind, [a, b, c]))?;
+    say(out, b",")?;
     let flat = [
         a.group, a.side, a.start, b.group, b.side, b.start, c.group, c.side, c.start,
     ];
-    say_measured(measure::measure(file, kind, &flat));
-    say(b"\n");
+    say_measured(out, measure::measure(file, kind, &flat))?;
+    say(out, b"\n")
 }
 
-fn legal_structs() {
+fn legal_structs(out: &mut impl Write) -> io::Result<()> {
     structs_case(
+        out,
         b"one group",
         &GAPPED,
         Kind::Apart,
         place(0, 0, 4),
         place(0, 0, 1),
         place(0, 0, 0),
-    );
+    )?;
     structs_case(
+        out,
         b"three groups",
         &GAPPED,
         Kind::Apart,
         place(0, 0, 0),
         place(1, 0, 0),
         place(2, 0, 0),
-    );
+    )?;
     structs_case(
+        out,
         b"fold after 1",
         &GAPPED,
         Kind::Nested,
         place(0, 0, 0),
         place(0, 1, 0),
         place(0, 1, 3),
-    );
+    )?;
     structs_case(
+        out,
         b"fold in group 1",
         &GAPPED,
         Kind::Nested,
         place(0, 0, 0),
         place(1, 0, 0),
         place(1, 1, 0),
-    );
+    )
 }
 
-fn refused_structs() {
+fn refused_structs(out: &mut impl Write) -> io::Result<()> {
     structs_case(
+        out,
         b"right side",
         &GAPPED,
         Kind::Apart,
         place(0, 0, 0),
         place(0, 1, 0),
         place(0, 1, 3),
-    );
+    )?;
     structs_case(
+        out,
         b"overlap",
         &GAPPED,
         Kind::Apart,
         place(0, 0, 3),
         place(0, 0, 1),
         place(0, 0, 0),
-    );
+    )?;
     structs_case(
+        out,
         b"side 4294967295",
         &GAPPED,
         Kind::Nested,
         place(0, 0, 4),
         place(0, 0, 1),
         place(0, 4294967295, 0),
-    );
+    )?;
     structs_case(
+        out,
         b"letters",
         b"STAK123",
         Kind::Apart,
         place(0, 0, 4),
         place(0, 0, 1),
         place(0, 0, 0),
-    );
+    )
 }
 
-fn barred_structs() {
+fn barred_structs(out: &mut impl Write) -> io::Result<()> {
     structs_case(
+        out,
         b"barred, two groups",
         &BARRED_GAPPED,
         Kind::Apart,
         place(0, 0, 0),
         place(1, 0, 1),
         place(1, 0, 0),
-    );
+    )?;
     structs_case(
+        out,
         b"barred, two sides",
         &BARRED_GAPPED,
         Kind::Nested,
         place(0, 0, 0),
         place(0, 1, 0),
         place(0, 1, 3),
-    );
+    )?;
     structs_case(
+        out,
         b"barred, empty rows",
         &BARRED_GAPPED,
         Kind::Apart,
         place(0, 0, 9),
         place(0, 0, 1),
         place(0, 0, 0),
-    );
+    )?;
     structs_case(
+        out,
         b"barred, a fold behind",
         &BARRED_GAPPED,
         Kind::Nested,
         place(0, 0, 3),
         place(0, 0, 0),
         place(0, 1, 0),
-    );
+    )
 }
 
 // As many placements as components are asked for, and no more are read.
-fn count_structs() {
+fn count_structs(out: &mut impl Write) -> io::Result<()> {
     structs_case(
+        out,
         b"four components",
         &PLAIN,
         Kind::Apart,
         place(0, 0, 0),
         place(1, 0, 0),
         place(2, 0, 0),
-    );
+    )?;
     structs_case(
+        out,
         b"two components",
         &SHORT,
         Kind::Apart,
         place(0, 0, 3),
         place(0, 0, 0),
         place(7, 7, 7),
-    );
+    )
 }
 
-fn main() {
-    range_cases();
-    order_cases();
-    side_cases();
-    start_cases();
-    gap_cases();
-    parted_cases();
-    unparted_cases();
-    written_case();
-    length_cases();
-    nested_64();
-    nested_65();
-    apart_256();
-    too_many();
-    choose_cases();
-    refused_choose_cases();
-    barred_choices();
-    legal_structs();
-    refused_structs();
-    barred_structs();
-    count_structs();
+fn main(rt: HostRuntime) -> io::Result<()> {
+    let mut out = BufWriter::new(rt.alloc(), io::writer(&rt))?;
+    range_cases(&mut out)?;
+    order_cases(&mut out)?;
+    side_cases(&mut out)?;
+    start_cases(&mut out)?;
+    gap_cases(&mut out)?;
+    parted_cases(&mut out)?;
+    unparted_cases(&mut out)?;
+    written_case(&mut out)?;
+    length_cases(&mut out)?;
+    nested_64(&mut out)?;
+    nested_65(&mut out)?;
+    apart_256(&mut out)?;
+    too_many(&mut out)?;
+    choose_cases(&mut out)?;
+    refused_choose_cases(&mut out)?;
+    barred_choices(&mut out)?;
+    legal_structs(&mut out)?;
+    refused_structs(&mut out)?;
+    barred_structs(&mut out)?;
+    count_structs(&mut out)?;
+    out.flush()
 }

@@ -66,3 +66,11 @@ module _ (kind : Kind) (file : List ℕ) (ps : List Placement) where
       go (inr h) =
           let m : min (length ps) 256 ≡ 256 = omega arith in
           rw m (each (check_of kind file) (λ cs e. omega (arith, (valid kind file cs e).stack.few, most_256 kind)) h)
+
+  -- The numbers of all placements that are read stand in xs.
+  pub all_read : (n i : ℕ) (xs : List ℕ) → i ≡ n → n ≡ min (length ps) 256 → take (3 * i) xs ≡ flat_of (take i ps)
+      → measure_of kind file (take (3 * n) xs) ≡ measure_of kind file (flat_of ps)
+  all_read n i xs e m h =
+      let k : take (3 * n) xs ≡ flat_of (take (min (length ps) 256) ps) =
+      ap (λ (j : ℕ). take (3 * j) xs) (sym e) ∙ h ∙ ap (λ (j : ℕ). flat_of (take j ps)) (e ∙ m) in
+      ap (λ (us : List ℕ). measure_of kind file us) k ∙ first_enough

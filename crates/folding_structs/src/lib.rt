@@ -1,5 +1,6 @@
 // Measuring over a slice of placements: one thin entry, which copies their numbers and hands them to the flat one.
 #![tactic(auto)]
+
 ghost use Rattle.std.specs.Prelude.{◌≡◌, [], ◌∷◌, ◌++◌, ◌+◌, ◌*◌, ◌≤◌, ◌<◌, min, length, take};
 ghost use Rattle.terms.specs.Numbers.{most_apart};
 ghost use Rattle.folding.specs.Calls.{measured_answer, measure_of};

@@ -1,5 +1,8 @@
 // The program `folds`, on stack E.
 #![tactic(auto)]
-fn main() {
-    folds_main::run();
+
+use std::io;
+
+fn main(rt: HostRuntime) -> io::Result<()> {
+    folds_main::run(&rt)
 }

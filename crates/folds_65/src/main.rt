@@ -1,5 +1,8 @@
 // The program `folds` on 65 components 1/1: a table apart, and a refusal nested.
 #![tactic(auto)]
-fn main() {
-    folds_main::run();
+
+use std::io;
+
+fn main(rt: HostRuntime) -> io::Result<()> {
+    folds_main::run(&rt)
 }

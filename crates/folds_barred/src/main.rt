@@ -1,6 +1,9 @@
 // The program `folds` on 2/3, 1/4, 3/1, 1/2 with gaps 5, 0, 7, every fold barred: each kind has one outline, and no gap
 // counts.
 #![tactic(auto)]
-fn main() {
-    folds_main::run();
+
+use std::io;
+
+fn main(rt: HostRuntime) -> io::Result<()> {
+    folds_main::run(&rt)
 }

@@ -1,5 +1,6 @@
 // Where the fold of one group is that is as low as it can be under a cap.
 #![tactic(auto)]
+
 ghost use Rattle.std.specs.Prelude.{◌≡◌, ◌+◌, ◌*◌, ◌≤◌, ◌<◌, length, get_or};
 ghost use Rattle.terms.specs.Numbers.{most_size, most_nested};
 ghost use Rattle.numbers.specs.Table.{stride, cells};

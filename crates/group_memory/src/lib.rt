@@ -2,6 +2,7 @@
 // and what was found for a limit holds for the lower ones: an answer that keeps them stands without a search, and one that
 // does not is still a bound from below. Each group has a word of its own in the work buffer, behind the table of the search.
 #![tactic(auto)]
+
 ghost use Rattle.std.specs.Prelude.{◌≡◌, ◌<◌};
 ghost use Rattle.group_search.specs.Widths.{Narrow};
 ghost use Rattle.group_memory.specs.Memory.{widths, heights, word_width, word_height, MemoryAsks, Remembered};

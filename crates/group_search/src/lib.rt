@@ -1,6 +1,7 @@
 // The least width of one group for a height. Its least height under a cap is searched from the folds outwards, in one table
 // for all folds.
 #![tactic(auto)]
+
 ghost use Rattle.std.specs.Prelude.{◌≡◌, ◌+◌, ◌≤◌, ◌<◌, length};
 ghost use Rattle.group_table.specs.Inner.{Low};
 ghost use Rattle.group_search.specs.Inner.{Bordered, WalkAsks, Walked, Stopped, OfferAsks, Offered};
@@ -53,7 +54,7 @@ fn walk(h: &[u16], w: &[u16], p: usize, q: usize, row: u32, cap: Slices, known: 
     let mut a = row;
     let mut b = row;
     let mut fit = known.0;
-    while beside(w, x, y, cap) {
+    'ends: while beside(w, x, y, cap) {
         fit = larger(fit, get(w, x - 1) + get(w, y));
         let left = a + get(h, x - 1);
         let right = b + get(h, y);
@@ -132,7 +133,8 @@ fn turn(h: &[u16], w: &[u16], e: &mut [u32], p: usize, q: usize, cap: Slices, s:
 {
     let row = cell(e, p, q);
     let rest = larger(cell(e, p, h.len()), e[q]);
-    if s.height.0 <= row + rest {
+    let end = row + rest;
+    if s.height.0 <= end {
         return s;
     }
     let t = walk(h, w, p, q, row, cap, s.fit);

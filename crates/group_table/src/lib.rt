@@ -1,5 +1,6 @@
 // The table of the least rows of one group's sides, for every pair of ends.
 #![tactic(auto)]
+
 ghost use Rattle.std.specs.Prelude.{◌≡◌, ◌+◌, ◌*◌, ◌≤◌, ◌<◌, length, get_or};
 ghost use Rattle.group.specs.Table.{entry, Filled};
 ghost use Rattle.group_table.specs.Table.{Asks};

@@ -1,5 +1,6 @@
 // Writes the placements of one group, with the fold where the table of the group has found it.
 #![tactic(auto)]
+
 ghost use Rattle.std.specs.Prelude.{◌≡◌, ◌∷◌, ◌++◌, ◌+◌, ◌*◌, ◌<◌, length, take, drop};
 ghost use Rattle.terms.specs.Numbers.{most_apart};
 ghost use Rattle.group.specs.Table.{bare};

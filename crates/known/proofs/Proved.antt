@@ -104,6 +104,7 @@ width_found kind cs limit o e r w b =
     (f.0, subst (BestForWidth kind cs limit f.0) r.1 (best_width kind cs s at f.0 r.0 f.1 limit below (omega (arith, w, ap (λ (x : Outline). x.width.0) r.1))))
 
 all_larger_lem : (o : Outline) (os : List Outline) → all_larger o os ≡ true → (p : Outline) → Among p os → Larger o p
+all_larger_lem o [] e p u = elim u [ ]
 all_larger_lem o (q ∷ os) e p (inl a) = subst (Larger o) (sym a) (larger_true o q (both (larger o q) (all_larger o os) e).0)
 all_larger_lem o (q ∷ os) e p (inr a) = all_larger_lem o os (both (larger o q) (all_larger o os) e).1 p a
 

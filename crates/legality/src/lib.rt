@@ -1,5 +1,6 @@
 // Whether a folding is legal.
 #![tactic(auto)]
+
 ghost use Rattle.std.specs.Prelude.{◌≡◌, true, ◌&&◌, ◌≤◌, ◌<◌, length, eqb};
 ghost use Rattle.folding.specs.Placement.{height_of, group_of, start_of, end_of, left};
 ghost use Rattle.folding.specs.Legal.{most_start, legal, in_range, on_side};

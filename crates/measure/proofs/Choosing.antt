@@ -15,6 +15,8 @@ use Rattle.folding.specs.declared.Outline.{Outline}
 use Rattle.folding.specs.declared.Winner.{Winner}
 use Rattle.folding.specs.declared.Winner.TheVariants.{First, Second}
 use Rattle.folding.specs.Calls.{measure_in, winner_is, winners_part, choose_of}
+use Rattle.stack.proofs.Reading.{Held, components_held}
+use Rattle.measure.specs.Inner.{better_first}
 
 -- A folding that wins was measured.
 first_measured : (a b : Answer Outline) → winner_is a b ≡ First → (o : Outline) × (a ≡ result o)
@@ -44,3 +46,9 @@ module _ (kind : Kind) (file first second : List ℕ) where
 
     pub second_long : winner_is (measure_in kind cs first) (measure_in kind cs second) ≡ Second → 3 * n ≤ length second
     second_long w = let v = second_measured (measure_in kind cs first) (measure_in kind cs second) w in omega (arith, long kind cs second v.0 v.1)
+
+-- What was chosen from the lists that were read.
+module _ {kind : Kind} {file : List ℕ} {n : ℕ} {heights widths seams : List ℕ} (h : Held kind file n heights widths seams) where
+  pub outcome : (first second : List ℕ) {w : Winner} → w ≡ better_first kind n heights widths seams first second
+      → w ≡ winner_is (measure_in kind h.components first) (measure_in kind h.components second)
+  outcome first second e = rw (components_held h) at e

@@ -1,5 +1,6 @@
 // Measuring a folding, and choosing the better of two.
 #![tactic(auto)]
+
 ghost use Rattle.std.specs.Prelude.{◌≡◌};
 ghost use Rattle.terms.specs.Seams.{components_in};
 ghost use Rattle.folding.specs.Calls.{measured_answer, measure_in, measure_of, choose_of, second_wins, winner_is};

@@ -1,5 +1,6 @@
 // The outline of a legal folding.
 #![tactic(auto)]
+
 ghost use Rattle.std.specs.Prelude.{◌≡◌, true, ℕ, ◌+◌, ◌-◌, ◌*◌, ◌≤◌, ◌<◌, length};
 ghost use Rattle.terms.specs.Numbers.{most_apart};
 ghost use Rattle.folding.specs.Legal.{most_start};

@@ -1,5 +1,6 @@
 // The best layouts of a stack for a height, from its last component to its first.
 #![tactic(auto)]
+
 ghost use Rattle.std.specs.Prelude.{true, ◌≡◌, ◌+◌, ◌*◌, ◌≤◌, ◌<◌, length, get_or, take, drop};
 ghost use Rattle.numbers.specs.Table.{cells};
 ghost use Rattle.terms.specs.Numbers.{most_apart, most_limit};

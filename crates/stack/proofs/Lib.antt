@@ -2,3 +2,5 @@ pub mod Valid
 pub mod Columns
 pub mod Reading
 pub mod Looking
+pub mod Filling
+pub mod Parting

@@ -1,4 +1,4 @@
-// The calls for C and Rust: numbers and slices only.
+// The calls for C and Rust: numbers and slices only. The crate stack_folds_c exports them.
 #![tactic(auto)]
 ghost use Rattle.std.specs.Prelude.{◌≡◌, take, drop};
 ghost use Rattle.terms.specs.Answer.{count_answer};
@@ -83,15 +83,13 @@ fn measured(a: Measured) -> Extent
     }
 }
 
-#[unsafe(no_mangle)]
-pub extern "C" fn folds_check(file: &[u8], nested: bool) -> Count
+pub fn folds_check(file: &[u8], nested: bool) -> Count
     ensures { result ≡ count_code (count_of (check_of (kind_of nested) file.now)) }
 {
     counted(stack::check(file, kind_of(nested)))
 }
 
-#[unsafe(no_mangle)]
-pub extern "C" fn folds_read(
+pub fn folds_read(
     file: &[u8],
     heights: &mut [u16],
     widths: &mut [u16],
@@ -107,8 +105,7 @@ pub extern "C" fn folds_read(
 }
 
 // What `stack::lookup` shows is as long as a component, or empty.
-#[unsafe(no_mangle)]
-pub extern "C" fn folds_lookup(file: &[u8], number: usize) -> Part
+pub fn folds_lookup(file: &[u8], number: usize) -> Part
     ensures value { result ≡ part_code (check_of Apart file.now) file.now number }
     ensures file_value { take result.length (drop result.start file.now) ≡ lookup_of file.now number }
 {
@@ -125,8 +122,7 @@ pub extern "C" fn folds_lookup(file: &[u8], number: usize) -> Part
     }
 }
 
-#[unsafe(no_mangle)]
-pub extern "C" fn folds_write(
+pub fn folds_write(
     heights: &[u16],
     widths: &[u16],
     gaps: &[u16],
@@ -140,8 +136,7 @@ pub extern "C" fn folds_write(
     counted(stack_write::write(heights, widths, gaps, marks, file))
 }
 
-#[unsafe(no_mangle)]
-pub extern "C" fn folds_measure(file: &[u8], nested: bool, placements: &[u32]) -> Extent
+pub fn folds_measure(file: &[u8], nested: bool, placements: &[u32]) -> Extent
     ensures { result ≡ outline_code (measure_of (kind_of nested) file.now placements.now) }
 {
     measured(measure::measure(file, kind_of(nested), placements))
@@ -157,8 +152,7 @@ fn choice(w: Winner) -> u32
     }
 }
 
-#[unsafe(no_mangle)]
-pub extern "C" fn folds_choose(file: &[u8], nested: bool, first: &[u32], second: &[u32]) -> u32
+pub fn folds_choose(file: &[u8], nested: bool, first: &[u32], second: &[u32]) -> u32
     ensures value { result ≡ choice_code (winner_is
         (measure_of (kind_of nested) file.now first.now)
         (measure_of (kind_of nested) file.now second.now)) }
@@ -171,8 +165,7 @@ pub extern "C" fn folds_choose(file: &[u8], nested: bool, first: &[u32], second:
     choice(measure::better(a, b))
 }
 
-#[unsafe(no_mangle)]
-pub extern "C" fn folds_to_height(
+pub fn folds_to_height(
     file: &[u8],
     nested: bool,
     limit: u32,
@@ -187,8 +180,7 @@ pub extern "C" fn folds_to_height(
     measured(fold::to_height(file, kind, Rows(limit), placements, work))
 }
 
-#[unsafe(no_mangle)]
-pub extern "C" fn folds_to_width(
+pub fn folds_to_width(
     file: &[u8],
     nested: bool,
     limit: u32,
@@ -203,8 +195,7 @@ pub extern "C" fn folds_to_width(
     measured(fold::to_width(file, kind, Slices(limit), placements, work))
 }
 
-#[unsafe(no_mangle)]
-pub extern "C" fn folds_smallest_area(
+pub fn folds_smallest_area(
     file: &[u8],
     nested: bool,
     placements: &mut [u32],
@@ -218,8 +209,7 @@ pub extern "C" fn folds_smallest_area(
     measured(fold_area::smallest_area(file, kind, placements, work))
 }
 
-#[unsafe(no_mangle)]
-pub extern "C" fn folds_table(
+pub fn folds_table(
     file: &[u8],
     nested: bool,
     pairs: &mut [u32],

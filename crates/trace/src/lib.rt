@@ -1,5 +1,6 @@
 // Traces back the best layout of a stack: its first group, then that of the rest.
 #![tactic(auto)]
+
 ghost use Rattle.std.specs.Prelude.{◌≡◌, ◌-◌, ◌*◌, ◌≤◌, ◌<◌, length, get_or, take};
 ghost use Rattle.terms.specs.Seams.{gap_at, components_in};
 ghost use Rattle.trace.specs.Trace.{GroupAsks, FoldFound, GroupPut, FirstAsks, TraceAsks, Traced};

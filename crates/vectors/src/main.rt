@@ -3,9 +3,11 @@
 // A line: components as height/width/gap, the apart table, the nested table, apart by bars. Where components are
 // height/width/gap/mark, the smallest area apart, nested and the sum of the components' cells follow; the sum is not asked for.
 #![tactic(auto)]
-ghost use Rattle.std.specs.Prelude.{◌+◌, ◌*◌, ◌/◌, ◌≤◌, ◌<◌, length};
+
+ghost use Rattle.std.specs.Prelude.{◌+◌, ◌*◌, ◌/◌, ◌≤◌, ◌<◌, length, IfOk};
 
 use folding::Measured;
+use std::io::{self, BufWriter, Read, Write};
 use terms::{Counted, Kind, LEAST_WORK, MOST_LIMIT, Rows, Slices};
 
 // What was compared, and what was not as listed.
@@ -460,13 +462,12 @@ fn line(text: &[u8], t: Tally) -> Tally {
     both_files(&file, n, text, t)
 }
 
-fn say(text: &[u8], n: u32) {
-    io::write_all(1, text);
-    io::print_decimal(1, n as u64);
-    io::write_all(1, b"\n");
+fn say(out: &mut impl Write, text: &[u8], n: u32) -> io::Result<()> {
+    out.write_all(text)?;
+    writeln!(out, "{n}")
 }
 
-fn lines(text: &[u8]) {
+fn lines(out: &mut impl Write, text: &[u8]) -> io::Result<()> {
     let mut t = Tally {
         compared: 0,
         wrong: 0,
@@ -479,19 +480,37 @@ fn lines(text: &[u8]) {
         stacks = one_more(stacks);
         at = end + 1;
     }
-    say(b"stacks ", stacks);
-    say(b"compared ", t.compared);
-    say(b"not as listed ", t.wrong);
+    say(out, b"stacks ", stacks)?;
+    say(out, b"compared ", t.compared)?;
+    say(out, b"not as listed ", t.wrong)
 }
 
-fn first_lines(text: &[u8], n: usize) {
+fn first_lines(out: &mut impl Write, text: &[u8], n: usize) -> io::Result<()> {
     if n <= text.len() {
-        lines(&text[..n]);
+        lines(out, &text[..n])?;
     }
+    Ok(())
 }
 
-fn main() {
-    let mut input = io::large_buffer();
-    let n = io::read_full(0, &mut input);
-    first_lines(&input, n);
+// Reads until the buffer is full or the input ends, and says how many bytes came.
+fn read_full(input: &mut impl Read, buf: &mut [u8]) -> io::Result<usize>
+    ensures { IfOk result (λ n. n ≤ length buf.new) }
+{
+    let mut done = 0;
+    while done < buf.len() {
+        let n = input.read(&mut buf[done..])?;
+        if n == 0 {
+            break;
+        }
+        done += n;
+    }
+    Ok(done)
+}
+
+fn main(rt: HostRuntime) -> io::Result<()> {
+    let mut out = BufWriter::new(rt.alloc(), io::writer(&rt))?;
+    let mut input = [0u8; 65536];
+    let n = read_full(&mut rt.reader(), &mut input)?;
+    first_lines(&mut out, &input, n)?;
+    out.flush()
 }

@@ -10,10 +10,17 @@ use borrow.Author.Rules.{rules}
 use Rattle.fold.proofs.to_width.Goals as goal
 
 pub first_to_width-requires : goal.first_to_width-requires
-first_to_width-requires c = first_held (read_held _ _ _ _ _ refl refl refl c.read_seams.ensures _ (ap count_answer c.in-Count.is)) c.read_seams.auto.heights c.read_seams.auto.widths c.read_seams.auto.seams
+first_to_width-requires c =
+    first_held (read_held _ _ _ _ _ refl refl refl c.read_seams.ensures _ (ap count_answer c.in-Count.is))
+    c.read_seams.auto.heights c.read_seams.auto.widths c.read_seams.auto.seams
 
 pub returns-in-Refused : goal.returns-in-Refused
-returns-in-Refused c = let a = c.args in refused_file (by_width a.kind a.limit.0) a.kind a.limit.0 a.out.now a.work.now a.file.now _ (read_refused _ _ _ _ _ refl refl refl c.read_seams.ensures _ (ap count_answer c.in-Refused.is))
+returns-in-Refused c =
+    let a = c.args in refused_file (by_width a.kind a.limit.0) a.kind a.limit.0 a.out.now a.work.now a.file.now _
+    (read_refused _ _ _ _ _ refl refl refl c.read_seams.ensures _ (ap count_answer c.in-Refused.is))
 
 pub returns-in-Count : goal.returns-in-Count
-returns-in-Count c = let a = c.args in of_file (by_width a.kind a.limit.0) a.kind a.limit.0 a.out.now a.work.now (read_held _ _ _ _ _ refl refl refl c.read_seams.ensures _ (ap count_answer c.in-Count.is)) c.first_to_width.new.out c.first_to_width.new.work (measured_answer c.first_to_width.result) c.first_to_width.ensures
+returns-in-Count c =
+    let a = c.args in of_file (by_width a.kind a.limit.0) a.kind a.limit.0 a.out.now
+    a.work.now (read_held _ _ _ _ _ refl refl refl c.read_seams.ensures _ (ap count_answer c.in-Count.is))
+    c.first_to_width.new.out c.first_to_width.new.work (measured_answer c.first_to_width.result) c.first_to_width.ensures

@@ -29,24 +29,8 @@ loop-limit-smaller c = omega (arith, c.larger-limit.ensures, c.loop-limit-test.t
 pub loop-limit-preserved : goal.loop-limit-preserved
 loop-limit-preserved c = (rw c.smaller-lead.ensures (smaller_leads _ _ (stacked _ _ _ _ c.requires.plan_asks.lists c.requires.plan_asks.some c.requires.plan_asks.free) _ c.loop-limit.invariant.0 _ (omega (arith, c.larger-limit.ensures, c.loop-limit-test.true, c.loop-limit.invariant.6)) _ c.replan-o.ensures.plan_done.outlined c.if-o-lt-NONE.true), λ h. (c.replan-o.ensures.plan_done.planned, c.replan-o.ensures.memory), c.replan-o.auto.widths ∙ c.loop-limit.invariant.2, c.replan-o.auto.heights ∙ c.loop-limit.invariant.3, c.replan-o.auto.ends ∙ c.loop-limit.invariant.4, c.replan-o.auto.work ∙ c.loop-limit.invariant.5, omega (arith, c.larger-limit.ensures, c.loop-limit-test.true, c.loop-limit.invariant.6))
 
--- NOGOAL same-length: c.before.before.before.before.before.before.before.before.before.before.replan.auto.1.1.1.1.1.1.0 ∙ c.before.before.before.before.before.before.before.before.before.before.before.before.before.before.before.before.before.before.loop.invariant.2
-
--- NOGOAL same-length-2: c.before.before.before.before.before.before.before.before.before.before.replan.auto.1.1.1.1.1.1.1.0 ∙ c.before.before.before.before.before.before.before.before.before.before.before.before.before.before.before.before.before.before.loop.invariant.3
-
--- NOGOAL same-length-3: c.before.before.before.before.before.before.before.before.before.before.replan.auto.1.1.1.1.1.1.1.1.0 ∙ c.before.before.before.before.before.before.before.before.before.before.before.before.before.before.before.before.before.before.loop.invariant.4
-
--- NOGOAL same-length-4: c.before.before.before.before.before.before.before.before.before.before.replan.auto.1.1.1.1.1.1.1.1.1.0 ∙ c.before.before.before.before.before.before.before.before.before.before.before.before.before.before.before.before.before.before.loop.invariant.5
-
 pub returns-else-o-lt-NONE : goal.returns-else-o-lt-NONE
 returns-else-o-lt-NONE c = c.loop-limit.invariant.0
-
--- NOGOAL same-length-5: c.before.before.loop.invariant.2
-
--- NOGOAL same-length-6: c.before.before.loop.invariant.3
-
--- NOGOAL same-length-7: c.before.before.loop.invariant.4
-
--- NOGOAL same-length-8: c.before.before.loop.invariant.5
 
 pub returns : goal.returns
 returns c = c.loop-limit.invariant.0

@@ -22,14 +22,6 @@ replan-o-requires-clause-plan_asks c = asks_again c.requires.plan_asks (omega (a
 pub replan-o-requires-clause-known : goal.replan-o-requires-clause-known
 replan-o-requires-clause-known c = λ h. c.loop-limit.invariant.1 (omega arith)
 
--- NOGOAL same-length: c.before.before.before.before.before.before.before.before.before.before.replan.auto.1.1.1.1.1.1.0 ∙ c.before.before.before.before.before.before.before.before.before.before.before.before.before.before.before.before.before.before.loop.invariant.2
-
--- NOGOAL same-length-2: c.before.before.before.before.before.before.before.before.before.before.replan.auto.1.1.1.1.1.1.1.0 ∙ c.before.before.before.before.before.before.before.before.before.before.before.before.before.before.before.before.before.before.loop.invariant.3
-
--- NOGOAL same-length-3: c.before.before.before.before.before.before.before.before.before.before.replan.auto.1.1.1.1.1.1.1.1.0 ∙ c.before.before.before.before.before.before.before.before.before.before.before.before.before.before.before.before.before.before.loop.invariant.4
-
--- NOGOAL same-length-4: c.before.before.before.before.before.before.before.before.before.before.replan.auto.1.1.1.1.1.1.1.1.1.0 ∙ c.before.before.before.before.before.before.before.before.before.before.before.before.before.before.before.before.before.before.loop.invariant.5
-
 pub returns-then-o-ge-NONE : goal.returns-then-o-ge-NONE
 returns-then-o-ge-NONE c = record { smallest_for = ends_unmet _ _ (stacked _ _ _ _ c.requires.plan_asks.lists c.requires.plan_asks.some c.requires.plan_asks.free) c.requires.bounds _ _ c.loop-limit.invariant.0 _ c.replan-o.ensures.plan_done.outlined c.if-o-ge-NONE.true; held = λ h. (c.replan-o.ensures.plan_done.planned, c.replan-o.ensures.memory) }
 
@@ -44,14 +36,6 @@ loop-limit-smaller c = rw (c.next_limit-limit-in-loop-limit.ensures, c.smaller-l
 
 pub loop-limit-preserved : goal.loop-limit-preserved
 loop-limit-preserved c = (rw (c.next_limit-limit-in-loop-limit.ensures, c.smaller-lead.ensures) (goes_on _ _ (stacked _ _ _ _ c.requires.plan_asks.lists c.requires.plan_asks.some c.requires.plan_asks.free) c.requires.bounds _ _ c.loop-limit.invariant.0 _ c.replan-o.ensures.plan_done.outlined c.if-o-ge-NONE.false), λ h. (c.replan-o.ensures.plan_done.planned, c.replan-o.ensures.memory), c.replan-o.auto.widths ∙ c.loop-limit.invariant.2, c.replan-o.auto.heights ∙ c.loop-limit.invariant.3, c.replan-o.auto.ends ∙ c.loop-limit.invariant.4, c.replan-o.auto.work ∙ c.loop-limit.invariant.5)
-
--- NOGOAL same-length-5: c.before.before.before.loop.invariant.2
-
--- NOGOAL same-length-6: c.before.before.before.loop.invariant.3
-
--- NOGOAL same-length-7: c.before.before.before.loop.invariant.4
-
--- NOGOAL same-length-8: c.before.before.before.loop.invariant.5
 
 pub returns : goal.returns
 returns c = record { smallest_for = ends_low _ _ (stacked _ _ _ _ c.requires.plan_asks.lists c.requires.plan_asks.some c.requires.plan_asks.free) c.requires.bounds _ _ c.loop-limit.invariant.0 c.loop-limit-test.false; held = c.loop-limit.invariant.1 }

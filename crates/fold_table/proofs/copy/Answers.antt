@@ -12,7 +12,5 @@ loop-i-init c = (refl, omega arith, refl)
 pub loop-i-preserved : goal.loop-i-preserved
 loop-i-preserved c = (copied c.args.waiting.now c.args.out.now c.loop-i.out c.args.from c.loop-i.i (omega (arith, c.requires.0)) (omega (arith, c.requires.1)) c.loop-i.invariant.0, omega arith, length-set c.loop-i.out c.loop-i.i _ ∙ c.loop-i.invariant.2)
 
--- NOGOAL same-length: c.before.loop.invariant.2
-
 pub returns : goal.returns
 returns c = let z : c.loop-i.i ≡ c.args.count = omega (arith, c.loop-i.invariant.1) in rw z at c.loop-i.invariant.0

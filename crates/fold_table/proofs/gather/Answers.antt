@@ -29,12 +29,6 @@ replan-o-requires-clause-plan_asks c = asks_again c.loop-limit.invariant.1 (omeg
 pub replan-o-requires-clause-known : goal.replan-o-requires-clause-known
 replan-o-requires-clause-known c = c.loop-limit.invariant.2
 
--- NOGOAL same-length: c.before.before.before.before.before.before.before.before.before.before.replan.auto.1.1.1.1.1.1.0 ∙ c.before.before.before.before.before.before.before.before.before.before.before.before.before.before.before.before.loop.invariant.3
-
--- NOGOAL same-length-2: c.before.before.before.before.before.before.before.before.before.before.replan.auto.1.1.1.1.1.1.1.0 ∙ c.before.before.before.before.before.before.before.before.before.before.before.before.before.before.before.before.loop.invariant.4
-
--- NOGOAL same-length-3: c.before.before.before.before.before.before.before.before.before.before.replan.auto.1.1.1.1.1.1.1.1.0 ∙ c.before.before.before.before.before.before.before.before.before.before.before.before.before.before.before.before.loop.invariant.5
-
 pub returns-then-o-ge-NONE : goal.returns-then-o-ge-NONE
 returns-then-o-ge-NONE c = gather_all _ _ (stacked_asks c.requires) _ _ _ _ c.room-from.ensures (no_more _ _ (stacked_asks c.requires) c.loop-limit.limit c.replan-o.result c.replan-o.ensures.plan_done.outlined c.if-o-ge-NONE.true) (gather_plans _ _ _ c.replan-o.new.work _ _ _ (c.replan-o.auto.work ∙ length-take-le c.room-from.result c.loop-limit.work (omega (arith, c.room-from.ensures, c.loop-limit.invariant.1.room))) (omega (arith, c.room-from.ensures, c.loop-limit.invariant.1.room)) c.loop-limit.invariant.0)
 
@@ -58,14 +52,6 @@ loop-limit-smaller c = omega (arith, high _ _ (stacked_asks c.requires) c.loop-l
 
 pub loop-limit-preserved : goal.loop-limit-preserved
 loop-limit-preserved c = (gather_more _ _ (stacked_asks c.requires) c.loop-limit.limit c.replan-o.result c.replan-o.ensures.plan_done.outlined c.if-o-ge-NONE.false _ _ _ _ (gather_plans _ _ _ c.replan-o.new.work _ _ _ (c.replan-o.auto.work ∙ length-take-le c.room-from.result c.loop-limit.work (omega (arith, c.room-from.ensures, c.loop-limit.invariant.1.room))) (omega (arith, c.room-from.ensures, c.loop-limit.invariant.1.room)) c.loop-limit.invariant.0) c.keep_pair.ensures, asks_again c.loop-limit.invariant.1 (omega (arith, falls _ _ (stacked_asks c.requires) c.loop-limit.limit c.replan-o.result c.replan-o.ensures.plan_done.outlined c.if-o-ge-NONE.false)) c.replan-o.auto.widths c.replan-o.auto.heights c.replan-o.auto.ends (omega arith), λ h. (c.replan-o.ensures.plan_done.planned, front_memory c.replan-o.new.work _ _ _ _ _ (c.replan-o.auto.work ∙ length-take-le c.room-from.result c.loop-limit.work (omega (arith, c.room-from.ensures, c.loop-limit.invariant.1.room))) (omega arith) c.keep_pair.ensures c.args.kind c.loop-limit.limit c.args.h.now c.args.w.now c.args.g.now c.replan-o.ensures.memory), c.replan-o.auto.widths ∙ c.loop-limit.invariant.3, c.replan-o.auto.heights ∙ c.loop-limit.invariant.4, c.replan-o.auto.ends ∙ c.loop-limit.invariant.5, omega arith)
-
--- NOGOAL same-length-5: c.before.loop.invariant.3
-
--- NOGOAL same-length-6: c.before.loop.invariant.4
-
--- NOGOAL same-length-7: c.before.loop.invariant.5
-
--- NOGOAL same-length-8: c.before.loop.invariant.6
 
 pub returns : goal.returns
 returns c = gather_all _ _ (stacked_asks c.requires) _ _ _ _ c.room-from.ensures (none_to _ _ _ c.loop-limit-test.false) c.loop-limit.invariant.0

@@ -18,16 +18,6 @@ replan-o-requires-clause-plan_asks c = c.loop-rows.invariant.1
 pub replan-o-requires-clause-known : goal.replan-o-requires-clause-known
 replan-o-requires-clause-known c = c.loop-rows.invariant.2
 
--- NOGOAL same-length: c.before.before.before.before.before.before.before.before.before.before.replan.auto.1.1.1.1.1.1.0 ∙ c.before.before.before.before.before.before.before.before.before.before.before.before.before.before.before.before.loop.invariant.3
-
--- NOGOAL same-length-2: c.before.before.before.before.before.before.before.before.before.before.replan.auto.1.1.1.1.1.1.1.0 ∙ c.before.before.before.before.before.before.before.before.before.before.before.before.before.before.before.before.loop.invariant.4
-
--- NOGOAL same-length-3: c.before.before.before.before.before.before.before.before.before.before.replan.auto.1.1.1.1.1.1.1.1.0 ∙ c.before.before.before.before.before.before.before.before.before.before.before.before.before.before.before.before.loop.invariant.5
-
--- NOGOAL same-length-4: c.before.before.before.before.before.before.before.before.before.before.before.before.before.before.before.before.loop.invariant.0.long
-
--- NOGOAL same-length-5: c.before.before.before.before.before.before.before.before.before.before.replan.auto.1.1.1.1.1.1.1.1.1.0 ∙ c.before.before.before.before.before.before.before.before.before.before.before.before.before.before.before.before.loop.invariant.6
-
 pub returns-then-o-ge-NONE : goal.returns-then-o-ge-NONE
 returns-then-o-ge-NONE c = write_all _ _ (stacked_asks c.requires.plan_asks) _ _ _ _ (no_more _ _ (stacked_asks c.requires.plan_asks) c.loop-rows.rows c.replan-o.result c.replan-o.ensures.plan_done.outlined c.if-o-ge-NONE.true) c.loop-rows.invariant.0
 
@@ -45,16 +35,6 @@ loop-rows-smaller c = omega (arith, high _ _ (stacked_asks c.requires.plan_asks)
 
 pub loop-rows-preserved : goal.loop-rows-preserved
 loop-rows-preserved c = (write_more _ _ (stacked_asks c.requires.plan_asks) c.loop-rows.rows c.replan-o.result c.replan-o.ensures.plan_done.outlined c.if-o-ge-NONE.false _ _ _ c.loop-rows.invariant.0 c.requires.fits _ c.put_pair.ensures, asks_again c.loop-rows.invariant.1 (omega (arith, falls _ _ (stacked_asks c.requires.plan_asks) c.loop-rows.rows c.replan-o.result c.replan-o.ensures.plan_done.outlined c.if-o-ge-NONE.false)) c.replan-o.auto.widths c.replan-o.auto.heights c.replan-o.auto.ends (omega (arith, c.replan-o.auto.work, c.loop-rows.invariant.1.room)), λ h. (c.replan-o.ensures.plan_done.planned, c.replan-o.ensures.memory), c.replan-o.auto.widths ∙ c.loop-rows.invariant.3, c.replan-o.auto.heights ∙ c.loop-rows.invariant.4, c.replan-o.auto.ends ∙ c.loop-rows.invariant.5, c.replan-o.auto.work ∙ c.loop-rows.invariant.6)
-
--- NOGOAL same-length-6: c.before.loop.invariant.3
-
--- NOGOAL same-length-7: c.before.loop.invariant.4
-
--- NOGOAL same-length-8: c.before.loop.invariant.5
-
--- NOGOAL same-length-9: c.before.loop.invariant.0.long
-
--- NOGOAL same-length-10: c.before.loop.invariant.6
 
 pub returns : goal.returns
 returns c = write_all _ _ (stacked_asks c.requires.plan_asks) _ _ _ _ (none_to _ _ _ c.loop-rows-test.false) c.loop-rows.invariant.0

@@ -1,28 +1,37 @@
 use Prim.Native.Nat.{◌-◌}
-use mathlib.Core.Logic.{inl, inr}
 use lib.ListN.{length}
-use Rattle.group_height.proofs.Passing.{Passing, fold_sum, pass_start, pass_lower, pass_on, pass_ends}
+use Rattle.group_height.proofs.Passing.{fold_sum, pass_start, pass_lower, pass_on, pass_ends}
 use native.Mathlib.Omega.{arith}
-use borrow.Author.Rules.{rules}
 use Rattle.group_height.proofs.over_folds.Goals as goal
+use Rattle.group_height.proofs.over_folds.Goals.{then-t-v, else-t-v}
 
 pub overflow_add-v : goal.overflow_add-v
 overflow_add-v c = omega (arith, c.requires.small 0 c.requires.some, c.requires.first_low)
 
 pub overflow_add-v-2 : goal.overflow_add-v-2
-overflow_add-v-2 c = omega (arith, c.requires.small 0 c.requires.some, c.requires.first_low, c.gap-last.ensures.upper_bound)
+overflow_add-v-2 c =
+    omega (arith, c.requires.small 0 c.requires.some, c.requires.first_low, c.gap-last.ensures.upper_bound)
 
 pub loop-p-init : goal.loop-p-init
 loop-p-init c = pass_start c.requires _ (omega (arith, c.gap-last.ensures.value))
 
 pub fold_rows-requires : goal.fold_rows-requires
-fold_rows-requires c = (c.loop-p.invariant.some, omega (arith, c.loop-p-test.true), omega (arith, c.larger-most.ensures, c.gap-last.ensures.value, c.requires.first_low, c.requires.gaps_low (length c.args.g.now - 1)))
+fold_rows-requires c = (
+  c.loop-p.invariant.some,
+  omega arith,
+  omega (arith, c.larger-most.ensures, c.gap-last.ensures.value, c.requires.first_low, c.requires.gaps_low (length c.args.g.now - 1)),
+)
 
 pub overflow_add-t : goal.overflow_add-t
 overflow_add-t c = omega (arith, c.fold_cell.ensures, c.requires.small c.loop-p.p c.loop-p-test.true, c.fold_rows.ensures.1)
 
 pub loop-p-preserved : goal.loop-p-preserved
-loop-p-preserved c = elim c.if-t-v.branch [ inl k ↦ pass_lower c.requires c.loop-p.invariant c.loop-p-test.true _ (fold_sum c.requires _ _ _ _ _ c.fold_cell.ensures c.fold_rows.ensures.0 c.larger-most.ensures c.gap-last.ensures.value) _ _ k.0.taken k.1 k.2 | inr k ↦ pass_on c.requires c.loop-p.invariant c.loop-p-test.true _ (fold_sum c.requires _ _ _ _ _ c.fold_cell.ensures c.fold_rows.ensures.0 c.larger-most.ensures c.gap-last.ensures.value) _ _ k.0.left k.1 k.2 ]
+loop-p-preserved c =
+    let sum = fold_sum c.requires _ _ _ _ _ c.fold_cell.ensures c.fold_rows.ensures.0 c.larger-most.ensures c.gap-last.ensures.value in
+    elim c.if-t-v.branch [
+      | then-t-v w ↦ pass_lower c.requires c.loop-p.invariant c.loop-p-test.true _ sum _ _ w.if-t-v.true w.v-is w.at-is
+      | else-t-v w ↦ pass_on c.requires c.loop-p.invariant c.loop-p-test.true _ sum _ _ w.if-t-v.false w.v-is w.at-is
+    ]
 
 pub returns : goal.returns
 returns c = (_, pass_ends c.requires c.loop-p.invariant c.loop-p-test.false)

@@ -1,9 +1,6 @@
 use Prim.Native.Nat.{◌-◌}
-use mathlib.Core.Logic.{inl, inr}
 use lib.ListN.{length}
-use Rattle.group_height.proofs.Passing.{Passing, fold_sum, pass_start, pass_lower, pass_on, pass_ends}
-use native.Mathlib.Omega.{arith}
-use borrow.Author.Rules.{rules}
+use Rattle.group_height.proofs.Passing.{Passing}
 use Rattle.group_height.proofs.over_folds.Given as goal
 
 abbrev pub invariant-loop-p : goal.invariant-loop-p

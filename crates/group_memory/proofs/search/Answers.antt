@@ -1,6 +1,5 @@
 use mathlib.Core.Path.{sym, ◌∙◌}
 use Rattle.group_memory.proofs.Memory.{part_long, part_asks, found_small, searched}
-use borrow.Author.Rules.{rules}
 use Rattle.group_memory.proofs.search.Goals as goal
 
 pub slice_bounds-narrowest-end-2 : goal.slice_bounds-narrowest-end-2
@@ -16,4 +15,6 @@ pub returns-clause-narrow : goal.returns-clause-narrow
 returns-clause-narrow c = c.narrowest-fit.ensures.narrow
 
 pub returns-clause-remembered : goal.returns-clause-remembered
-returns-clause-remembered c = searched c.requires c.narrowest-fit.new.e (c.narrowest-fit.auto.e ∙ part_long c.requires) c.narrowest-fit.ensures.narrow c.narrowest-fit.ensures.over c.note.ensures
+returns-clause-remembered c =
+    searched c.requires c.narrowest-fit.new.e (c.narrowest-fit.auto.e ∙ part_long c.requires)
+    c.narrowest-fit.ensures.narrow c.narrowest-fit.ensures.over c.note.ensures

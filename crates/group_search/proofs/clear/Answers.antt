@@ -1,6 +1,4 @@
-use Prim.Native.Nat.{◌-◌}
-use lib.ListN.{length}
-use Rattle.group_search.proofs.Turns.{Clearing, clear_start, clear_row_asks, clear_next, clear_ends}
+use Rattle.group_search.proofs.Turns.{clear_start, clear_row_asks, clear_next, clear_ends}
 use native.Mathlib.Omega.{arith}
 use Rattle.group_search.proofs.clear.Goals as goal
 
@@ -14,9 +12,9 @@ pub clear_row-requires : goal.clear_row-requires
 clear_row-requires c = clear_row_asks c.requires c.loop-p.invariant c.loop-p-test.true
 
 pub loop-p-preserved : goal.loop-p-preserved
-loop-p-preserved c = clear_next c.requires c.loop-p.invariant _ c.clear_row.auto.e c.loop-p-test.true c.fold_rows-v.ensures.0 c.clear_row.ensures
-
--- NOGOAL same-length: c.before.loop.invariant.long
+loop-p-preserved c =
+    clear_next c.requires c.loop-p.invariant _ c.clear_row.auto.e c.loop-p-test.true c.fold_rows-v.ensures.0
+    c.clear_row.ensures
 
 pub returns : goal.returns
 returns c = clear_ends c.requires c.loop-p.invariant c.loop-p-test.false

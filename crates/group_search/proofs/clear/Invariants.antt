@@ -1,7 +1,6 @@
 use Prim.Native.Nat.{◌-◌}
 use lib.ListN.{length}
-use Rattle.group_search.proofs.Turns.{Clearing, clear_start, clear_row_asks, clear_next, clear_ends}
-use native.Mathlib.Omega.{arith}
+use Rattle.group_search.proofs.Turns.{Clearing}
 use Rattle.group_search.proofs.clear.Given as goal
 
 abbrev pub invariant-loop-p : goal.invariant-loop-p

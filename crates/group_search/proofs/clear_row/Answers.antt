@@ -1,8 +1,4 @@
-use Prim.Native.Nat.{◌-◌}
-use lib.ListN.{length-set}
-use mathlib.Core.Path.{◌∙◌}
-use Rattle.group_search.proofs.Turns.{Far, far_start, far_next, far_ends}
-use native.Mathlib.Omega.{arith}
+use Rattle.group_search.proofs.Turns.{far_start, far_next, far_ends}
 use Rattle.group_search.proofs.clear_row.Goals as goal
 
 pub loop-q-init : goal.loop-q-init
@@ -10,8 +6,6 @@ loop-q-init c = far_start c.requires
 
 pub loop-q-preserved : goal.loop-q-preserved
 loop-q-preserved c = far_next c.requires c.loop-q.invariant c.loop-q-test.true
-
--- NOGOAL same-length: (simp length-set) ∙ c.before.loop.invariant.long
 
 pub returns : goal.returns
 returns c = far_ends c.requires c.loop-q.invariant _ c.loop-q-test.false

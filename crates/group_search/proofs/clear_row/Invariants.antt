@@ -1,8 +1,5 @@
 use Prim.Native.Nat.{◌-◌}
-use lib.ListN.{length-set}
-use mathlib.Core.Path.{◌∙◌}
-use Rattle.group_search.proofs.Turns.{Far, far_start, far_next, far_ends}
-use native.Mathlib.Omega.{arith}
+use Rattle.group_search.proofs.Turns.{Far}
 use Rattle.group_search.proofs.clear_row.Given as goal
 
 abbrev pub invariant-loop-q : goal.invariant-loop-q

@@ -1,6 +1,4 @@
-use Prim.Native.Nat.{◌-◌}
-use mathlib.Core.Path.{◌∙◌}
-use Rattle.group_search.proofs.Halves.{Halving, cap_low, low_asks, asks_at, not_met, high_low, halves_start, met, missed, halved}
+use Rattle.group_search.proofs.Halves.{cap_low, low_asks, asks_at, not_met, high_low, halves_start, met, missed, halved}
 use native.Mathlib.Omega.{arith}
 use Rattle.group_search.proofs.narrowest.Goals as goal
 
@@ -13,39 +11,59 @@ borders-requires c = low_asks c.requires
 pub search-first-requires : goal.search-first-requires
 search-first-requires c = asks_at c.requires _ _ c.borders.ensures c.first_cap-top.ensures.to
 
--- NOGOAL same-length: c.before.before.before.before.before.search.auto.1.1.1.1.1.0 ∙ c.before.before.before.before.before.before.before.before.before.borders.auto.1.0
-
 pub returns-then-limit-first-clause-narrow : goal.returns-then-limit-first-clause-narrow
-returns-then-limit-first-clause-narrow c = (not_met c.requires c.first_cap-top.ensures c.search-first.ensures.searched _ c.if-limit-first.true).0
+returns-then-limit-first-clause-narrow c =
+    (not_met c.requires c.first_cap-top.ensures c.search-first.ensures.searched _ c.if-limit-first.true).0
 
 pub returns-then-limit-first-clause-over : goal.returns-then-limit-first-clause-over
-returns-then-limit-first-clause-over c = (not_met c.requires c.first_cap-top.ensures c.search-first.ensures.searched _ c.if-limit-first.true).1
+returns-then-limit-first-clause-over c =
+    (not_met c.requires c.first_cap-top.ensures c.search-first.ensures.searched 0 c.if-limit-first.true).1
 
 pub loop-lo-init : goal.loop-lo-init
-loop-lo-init c = halves_start c.requires c.first_cap-top.ensures c.search-first.ensures.searched c.larger-hi.ensures c.search-first.ensures.bordered c.if-limit-first.false
+loop-lo-init c =
+    halves_start c.requires c.first_cap-top.ensures c.search-first.ensures.searched c.larger-hi.ensures
+    c.search-first.ensures.bordered c.if-limit-first.false
 
 pub overflow_add-mid : goal.overflow_add-mid
-overflow_add-mid c = omega (arith, c.loop-lo.invariant.to, high_low c.requires c.first_cap-top.ensures c.search-first.ensures.searched c.larger-hi.ensures, cap_low c.requires)
+overflow_add-mid c = omega (
+  arith,
+  c.loop-lo.invariant.to,
+  high_low c.requires c.first_cap-top.ensures c.search-first.ensures.searched c.larger-hi.ensures,
+  cap_low c.requires,
+)
 
 pub search-run-requires : goal.search-run-requires
-search-run-requires c = asks_at c.requires _ _ c.loop-lo.invariant.borders (omega (arith, c.loop-lo.invariant.to, c.loop-lo-test.true, high_low c.requires c.first_cap-top.ensures c.search-first.ensures.searched c.larger-hi.ensures))
+search-run-requires c = asks_at c.requires _ _ c.loop-lo.invariant.borders (omega (
+  arith,
+  c.loop-lo.invariant.to,
+  c.loop-lo-test.true,
+  high_low c.requires c.first_cap-top.ensures c.search-first.ensures.searched c.larger-hi.ensures,
+))
 
 pub loop-lo-smaller-then-run-limit : goal.loop-lo-smaller-then-run-limit
-loop-lo-smaller-then-run-limit c = omega (arith, c.larger-hi-then-run-limit.ensures, c.search-run.ensures.searched.fits, c.loop-lo-test.true)
+loop-lo-smaller-then-run-limit c =
+    omega (arith, c.larger-hi-then-run-limit.ensures, c.search-run.ensures.searched.fits, c.loop-lo-test.true)
 
 pub loop-lo-preserved-then-run-limit : goal.loop-lo-preserved-then-run-limit
-loop-lo-preserved-then-run-limit c = met c.requires c.loop-lo.invariant c.search-run.ensures.searched _ c.search-run.auto.e c.search-run.ensures.bordered (omega (arith, c.loop-lo-test.true)) (omega (arith, c.loop-lo-test.true)) c.if-run-limit.true c.larger-hi-then-run-limit.ensures
+loop-lo-preserved-then-run-limit c =
+    met c.requires c.loop-lo.invariant c.search-run.ensures.searched _ c.search-run.auto.e c.search-run.ensures.bordered
+    (omega (arith, c.loop-lo-test.true)) (omega (arith, c.loop-lo-test.true)) c.if-run-limit.true
+    c.larger-hi-then-run-limit.ensures
 
 pub loop-lo-smaller : goal.loop-lo-smaller
 loop-lo-smaller c = omega (arith, c.lesser-lo.ensures, c.search-run.ensures.searched.clashes, c.loop-lo-test.true)
 
 pub loop-lo-preserved : goal.loop-lo-preserved
-loop-lo-preserved c = missed c.requires c.loop-lo.invariant c.search-run.ensures.searched _ c.search-run.auto.e c.search-run.ensures.bordered (omega (arith, c.loop-lo-test.true)) (omega (arith, c.loop-lo-test.true)) c.if-run-limit.false c.lesser-lo.ensures
-
--- NOGOAL same-length-2: c.before.loop.invariant.long ∙ c.before.before.before.before.before.before.before.before.before.search.auto.1.1.1.1.1.0 ∙ c.before.before.before.before.before.before.before.before.before.before.before.before.before.borders.auto.1.0
+loop-lo-preserved c =
+    missed c.requires c.loop-lo.invariant c.search-run.ensures.searched _ c.search-run.auto.e c.search-run.ensures.bordered
+    (omega (arith, c.loop-lo-test.true)) (omega (arith, c.loop-lo-test.true)) c.if-run-limit.false c.lesser-lo.ensures
 
 pub returns-clause-narrow : goal.returns-clause-narrow
-returns-clause-narrow c = (halved c.requires c.loop-lo.invariant (high_low c.requires c.first_cap-top.ensures c.search-first.ensures.searched c.larger-hi.ensures) c.loop-lo-test.false).0
+returns-clause-narrow c =
+    let low = high_low c.requires c.first_cap-top.ensures c.search-first.ensures.searched c.larger-hi.ensures in
+    (halved c.requires c.loop-lo.invariant low c.loop-lo-test.false).0
 
 pub returns-clause-over : goal.returns-clause-over
-returns-clause-over c = (halved c.requires c.loop-lo.invariant (high_low c.requires c.first_cap-top.ensures c.search-first.ensures.searched c.larger-hi.ensures) c.loop-lo-test.false).1
+returns-clause-over c =
+    let low = high_low c.requires c.first_cap-top.ensures c.search-first.ensures.searched c.larger-hi.ensures in
+    (halved c.requires c.loop-lo.invariant low c.loop-lo-test.false).1

@@ -1,7 +1,5 @@
 use Prim.Native.Nat.{◌-◌}
-use mathlib.Core.Path.{◌∙◌}
-use Rattle.group_search.proofs.Halves.{Halving, cap_low, low_asks, asks_at, not_met, high_low, halves_start, met, missed, halved}
-use native.Mathlib.Omega.{arith}
+use Rattle.group_search.proofs.Halves.{Halving}
 use Rattle.group_search.proofs.narrowest.Given as goal
 
 abbrev pub invariant-loop-lo : goal.invariant-loop-lo

@@ -1,6 +1,5 @@
 use Rattle.group_search.proofs.Walks.{top_low, side_low, offer_top, offer_side, offer_entry}
 use native.Mathlib.Omega.{arith}
-use borrow.Author.Rules.{rules}
 use Rattle.group_search.proofs.offer.Goals as goal
 
 pub overflow_add-row : goal.overflow_add-row

@@ -1,7 +1,4 @@
-use Prim.Native.Nat.{◌-◌}
-use lib.ListN.{length}
-use Rattle.group_search.proofs.Turns.{Rowing, row_start, turn_asks, turn_done, row_ends}
-use native.Mathlib.Omega.{arith}
+use Rattle.group_search.proofs.Turns.{row_start, turn_asks, turn_done, row_ends}
 use Rattle.group_search.proofs.over_row.Goals as goal
 
 pub loop-q-init : goal.loop-q-init
@@ -12,8 +9,6 @@ turn-best-requires c = turn_asks c.requires c.loop-q.invariant c.loop-q-test.tru
 
 pub loop-q-preserved : goal.loop-q-preserved
 loop-q-preserved c = turn_done c.requires c.loop-q.invariant c.turn-best.auto.e c.loop-q-test.true c.turn-best.ensures
-
--- NOGOAL same-length: c.before.loop.invariant.long
 
 pub returns : goal.returns
 returns c = row_ends c.requires c.loop-q.invariant c.loop-q-test.false

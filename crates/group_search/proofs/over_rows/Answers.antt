@@ -1,5 +1,4 @@
-use Rattle.group_search.proofs.Turns.{AllRows, rows_start, row_asks, row_done, rows_end}
-use native.Mathlib.Omega.{arith}
+use Rattle.group_search.proofs.Turns.{rows_start, row_asks, row_done, rows_end}
 use Rattle.group_search.proofs.over_rows.Goals as goal
 
 pub loop-p-init : goal.loop-p-init
@@ -10,8 +9,6 @@ over_row-best-requires c = row_asks c.requires c.loop-p.invariant c.loop-p-test.
 
 pub loop-p-preserved : goal.loop-p-preserved
 loop-p-preserved c = row_done c.requires c.loop-p.invariant c.over_row-best.auto.e c.loop-p-test.true c.over_row-best.ensures
-
--- NOGOAL same-length: c.before.loop.invariant.long
 
 pub returns : goal.returns
 returns c = rows_end c.requires c.loop-p.invariant c.loop-p-test.false

@@ -1,7 +1,5 @@
-use mathlib.Core.Path.{refl}
 use Rattle.group_search.proofs.Walks.{settle_top, settle_side, settle_clash}
 use native.Mathlib.Omega.{arith}
-use borrow.Author.Rules.{rules}
 use Rattle.group_search.proofs.settle.Goals as goal
 
 pub returns-then-x-eq0-clause-settled : goal.returns-then-x-eq0-clause-settled
@@ -20,4 +18,7 @@ pub get-requires-4 : goal.get-requires-4
 get-requires-4 c = omega (arith, c.requires.columns.same, c.requires.ordered, c.requires.within)
 
 pub returns-clause-settled : goal.returns-clause-settled
-returns-clause-settled c = settle_clash c.requires _ _ _ (omega arith) (omega (arith, c.requires.within)) (omega (arith, c.get.ensures.value)) (omega (arith, c.get-2.ensures.value)) (omega (arith, c.lesser.ensures, c.get-3.ensures.value, c.get-4.ensures.value)) c.offer-one.ensures c.offer-2.ensures
+returns-clause-settled c =
+    settle_clash c.requires _ _ _ (omega arith) (omega (arith, c.requires.within)) (omega (arith, c.get.ensures.value))
+    (omega (arith, c.get-2.ensures.value)) (omega (arith, c.lesser.ensures, c.get-3.ensures.value, c.get-4.ensures.value))
+    c.offer-one.ensures c.offer-2.ensures

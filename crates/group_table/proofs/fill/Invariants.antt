@@ -1,8 +1,6 @@
 use Prim.Native.Nat.{◌-◌}
 use lib.ListN.{length}
-use Rattle.group_table.proofs.Filling.{Tabling, borders, corner_empty, table_start, row_asks, row_filled, table_ends}
-use native.Mathlib.Omega.{arith}
-use mathlib.Core.Path.{◌∙◌}
+use Rattle.group_table.proofs.Filling.{Tabling}
 use Rattle.group_table.proofs.fill.Given as goal
 
 abbrev pub invariant-loop-p : goal.invariant-loop-p

@@ -1,6 +1,4 @@
-use Rattle.group_table.proofs.Filling.{Row, row_start, row_ready, row_stored, row_ends}
-use native.Mathlib.Omega.{arith}
-use borrow.Author.Rules.{rules}
+use Rattle.group_table.proofs.Filling.{row_start, row_ready, row_stored, row_ends}
 use Rattle.group_table.proofs.fill_row.Goals as goal
 
 pub loop-q-init : goal.loop-q-init
@@ -11,8 +9,6 @@ walk-v-requires c = row_ready c.requires c.loop-q.invariant c.loop-q-test.true
 
 pub loop-q-preserved : goal.loop-q-preserved
 loop-q-preserved c = row_stored c.requires c.loop-q.invariant c.loop-q-test.true _ c.walk-v.ensures
-
--- NOGOAL same-length: c.before.loop.invariant.long
 
 pub returns : goal.returns
 returns c = row_ends c.loop-q.invariant c.loop-q-test.false

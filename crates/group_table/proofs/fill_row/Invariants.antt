@@ -1,6 +1,4 @@
-use Rattle.group_table.proofs.Filling.{Row, row_start, row_ready, row_stored, row_ends}
-use native.Mathlib.Omega.{arith}
-use borrow.Author.Rules.{rules}
+use Rattle.group_table.proofs.Filling.{Row}
 use Rattle.group_table.proofs.fill_row.Given as goal
 
 abbrev pub invariant-loop-q : goal.invariant-loop-q

@@ -1,8 +1,5 @@
-use Prim.Native.Nat.{◌-◌}
-use lib.ListN.{length}
-use Rattle.group_table.proofs.Filling.{Side, side_start, side_stored, side_ends}
+use Rattle.group_table.proofs.Filling.{side_start, side_stored, side_ends}
 use native.Mathlib.Omega.{arith}
-use borrow.Author.Rules.{rules}
 use Rattle.group_table.proofs.fill_side.Goals as goal
 
 pub loop-p-init : goal.loop-p-init
@@ -13,8 +10,6 @@ overflow_add-s-in-loop-p c = omega (arith, c.get.ensures.upper_bound)
 
 pub loop-p-preserved : goal.loop-p-preserved
 loop-p-preserved c = side_stored c.requires.0 c.loop-p.invariant c.loop-p-test.true _ (omega (arith, c.get.ensures.value))
-
--- NOGOAL same-length: c.before.loop.invariant.long
 
 pub returns : goal.returns
 returns c = side_ends c.loop-p.invariant c.loop-p-test.false

@@ -1,8 +1,6 @@
 use Prim.Native.Nat.{◌-◌}
 use lib.ListN.{length}
-use Rattle.group_table.proofs.Filling.{Side, side_start, side_stored, side_ends}
-use native.Mathlib.Omega.{arith}
-use borrow.Author.Rules.{rules}
+use Rattle.group_table.proofs.Filling.{Side}
 use Rattle.group_table.proofs.fill_side.Given as goal
 
 abbrev pub invariant-loop-p : goal.invariant-loop-p

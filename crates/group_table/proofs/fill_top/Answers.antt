@@ -1,8 +1,5 @@
-use lib.ListN.{length-set}
-use Rattle.group_table.proofs.Filling.{Top, top_start, top_stored, top_ends}
+use Rattle.group_table.proofs.Filling.{top_start, top_stored, top_ends}
 use native.Mathlib.Omega.{arith}
-use mathlib.Core.Path.{◌∙◌}
-use borrow.Author.Rules.{rules}
 use Rattle.group_table.proofs.fill_top.Goals as goal
 
 pub loop-q-init : goal.loop-q-init
@@ -13,8 +10,6 @@ overflow_add-s c = omega (arith, c.get.ensures.upper_bound)
 
 pub loop-q-preserved : goal.loop-q-preserved
 loop-q-preserved c = top_stored c.requires c.loop-q.invariant c.loop-q-test.true _ (omega (arith, c.get.ensures.value))
-
--- NOGOAL same-length: c.before.loop.invariant.long ∙ simp length-set
 
 pub returns : goal.returns
 returns c = top_ends c.loop-q.invariant c.loop-q-test.false

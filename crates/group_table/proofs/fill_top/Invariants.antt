@@ -1,8 +1,4 @@
-use lib.ListN.{length-set}
-use Rattle.group_table.proofs.Filling.{Top, top_start, top_stored, top_ends}
-use native.Mathlib.Omega.{arith}
-use mathlib.Core.Path.{◌∙◌}
-use borrow.Author.Rules.{rules}
+use Rattle.group_table.proofs.Filling.{Top}
 use Rattle.group_table.proofs.fill_top.Given as goal
 
 abbrev pub invariant-loop-q : goal.invariant-loop-q

@@ -1,8 +1,6 @@
 use Prim.Native.Nat.{◌+◌, ◌-◌}
 use lib.ListN.{length}
-use Rattle.group_table.proofs.Walking.{Walking, walk_start, ending, walk_ends, to_left, to_right}
-use native.Mathlib.Omega.{arith}
-use borrow.Author.Rules.{rules}
+use Rattle.group_table.proofs.Walking.{Walking}
 use Rattle.group_table.proofs.walk.Given as goal
 
 abbrev pub invariant-loop-cap : goal.invariant-loop-cap

@@ -1,6 +1,5 @@
 use Rattle.group_trace.proofs.Turns.{only_right, only_left}
 use native.Mathlib.Omega.{arith}
-use borrow.Author.Rules.{rules}
 use Rattle.group_trace.proofs.next.Goals as goal
 
 pub returns-then-p-eq0 : goal.returns-then-p-eq0

@@ -1,7 +1,6 @@
-use native.Mathlib.Omega.{arith}
 use Prim.Native.Nat.{◌-◌}
 use lib.ListN.{length}
-use Rattle.group_trace.proofs.Writing.{Writing, start, asks, left_more, right_more, ended, left_room, right_room}
+use Rattle.group_trace.proofs.Writing.{Writing}
 use Rattle.group_trace.proofs.write_group.Given as goal
 
 abbrev pub invariant-loop-right : goal.invariant-loop-right

@@ -1,14 +1,10 @@
 use Prim.Native.Nat.{◌-◌, ◌≤◌, ◌<◌}
 use lib.ListN.{length, drop}
-use Rattle.folding.specs.Asks.{placed_at, placed_in}
+use Rattle.folding.specs.Asks.{placed_in}
 use Rattle.folding.specs.Placement.{start_of, height_of}
 use Rattle.folding.specs.Legal.{legal}
-use Rattle.folding.proofs.Rules.{passes, alone_is}
-use Rattle.legality.proofs.Passes.{pass_unopened, opened_low, pass_opened, pass_alone, pass_broken, pass_parted, pass_on, pass_done}
-use borrow.Author.Tests.{not-true, not-false}
-use native.Mathlib.Omega.{arith}
-use mathlib.Core.Path.{◌≡◌, sym, ◌∙◌}
-use borrow.Author.Rules.{rules}
+use Rattle.folding.proofs.Rules.{passes}
+use mathlib.Core.Path.{◌≡◌}
 use Rattle.legality.proofs.is_legal.Given as goal
 
 abbrev pub invariant-loop-i : goal.invariant-loop-i

@@ -37,19 +37,40 @@ pub slice_bounds-try_folds-end : goal.slice_bounds-try_folds-end
 slice_bounds-try_folds-end c = sym (length-take-le _ _ (omega (arith, c.if-h-k.false)))
 
 pub slice_bounds-try_folds-end-2 : goal.slice_bounds-try_folds-end-2
-slice_bounds-try_folds-end-2 c = sym (length-take-le _ _ (omega (arith, c.if-h-k.false, c.requires.first_asks.lists.same_widths)))
+slice_bounds-try_folds-end-2 c =
+    sym (length-take-le _ _ (omega (arith, c.if-h-k.false, c.requires.first_asks.lists.same_widths)))
 
 pub slice_bounds-try_folds-end-3 : goal.slice_bounds-try_folds-end-3
-slice_bounds-try_folds-end-3 c = sym (length-take-le _ _ (omega (arith, c.if-h-k.false, c.requires.first_asks.lists.same_seams)))
+slice_bounds-try_folds-end-3 c =
+    sym (length-take-le _ _ (omega (arith, c.if-h-k.false, c.requires.first_asks.lists.same_seams)))
 
 pub try_folds-b-requires : goal.try_folds-b-requires
-try_folds-b-requires c = let q = bound_asks c.requires.first_asks c.args.k (omega (arith, c.if-k-eq0.false)) (omega (arith, c.if-h-k.false)) c.sizes_of-s.result c.sizes_of-s.ensures _ c.rest_at-rest.ensures in record { group_asks = q.0; packed = q.1; word_asks = bound_word Nested _ _ _ _ _ _ _ c.args.k (omega (arith, c.if-k-eq0.false)) (omega (arith, c.if-h-k.false)) c.requires.row_asks; g_value = first_free _ _ _ c.args.k (omega (arith, c.if-k-eq0.false)) (omega (arith, c.if-h-k.false)) (sym c.barred.ensures ∙ c.if-barred.false) }
+try_folds-b-requires c =
+    let q = bound_asks c.requires.first_asks c.args.k (omega (arith, c.if-k-eq0.false)) (omega (arith, c.if-h-k.false))
+    c.sizes_of-s.result c.sizes_of-s.ensures _ c.rest_at-rest.ensures in
+    record { group_asks = q.0; packed = q.1; word_asks = bound_word Nested _ _ _ _ _ _ _ c.args.k (omega (arith,
+    c.if-k-eq0.false)) (omega (arith, c.if-h-k.false)) c.requires.row_asks;
+    g_value = first_free _ _ _ c.args.k (omega (arith, c.if-k-eq0.false)) (omega (arith, c.if-h-k.false))
+    (sym c.barred.ensures ∙ c.if-barred.false) }
 
 pub overflow_add-b : goal.overflow_add-b
-overflow_add-b c = omega (arith, bound_low c.requires.first_asks c.args.k (omega (arith, c.if-k-eq0.false)) (omega (arith, c.if-h-k.false)) c.sizes_of-s.result c.sizes_of-s.ensures _ c.rest_at-rest.ensures c.try_folds-b.result (first_tried Nested c.args.limit.0 c.args.g0.0 c.args.k c.args.h.now (components_in (take c.args.k c.args.h.now) (take c.args.k c.args.w.now) (take c.args.k c.args.g.now)) (layout_in c.rest_at-rest.result) unmet _ (omega (arith, c.if-h-k.false)) c.try_folds-b.ensures.result_value))
+overflow_add-b c =
+    omega (arith, bound_low c.requires.first_asks c.args.k (omega (arith, c.if-k-eq0.false)) (omega (arith,
+    c.if-h-k.false)) c.sizes_of-s.result c.sizes_of-s.ensures _ c.rest_at-rest.ensures c.try_folds-b.result
+    (first_tried Nested c.args.limit.0 c.args.g0.0 c.args.k c.args.h.now
+    (components_in (take c.args.k c.args.h.now) (take c.args.k c.args.w.now) (take c.args.k c.args.g.now))
+    (layout_in c.rest_at-rest.result) unmet _ (omega (arith, c.if-h-k.false)) c.try_folds-b.ensures.result_value))
 
 pub returns-clause-under : goal.returns-clause-under
-returns-clause-under c = bound_under c.requires.first_asks c.args.k (omega (arith, c.if-k-eq0.false)) (omega (arith, c.if-h-k.false)) c.sizes_of-s.result c.sizes_of-s.ensures _ c.rest_at-rest.ensures c.try_folds-b.result _ (first_tried Nested c.args.limit.0 c.args.g0.0 c.args.k c.args.h.now (components_in (take c.args.k c.args.h.now) (take c.args.k c.args.w.now) (take c.args.k c.args.g.now)) (layout_in c.rest_at-rest.result) unmet _ (omega (arith, c.if-h-k.false)) c.try_folds-b.ensures.result_value) c.lesser.ensures
+returns-clause-under c =
+    bound_under c.requires.first_asks c.args.k (omega (arith, c.if-k-eq0.false)) (omega (arith, c.if-h-k.false))
+    c.sizes_of-s.result c.sizes_of-s.ensures _ c.rest_at-rest.ensures c.try_folds-b.result _
+    (first_tried Nested c.args.limit.0 c.args.g0.0 c.args.k c.args.h.now
+    (components_in (take c.args.k c.args.h.now) (take c.args.k c.args.w.now) (take c.args.k c.args.g.now))
+    (layout_in c.rest_at-rest.result) unmet _ (omega (arith, c.if-h-k.false)) c.try_folds-b.ensures.result_value)
+    c.lesser.ensures
 
 pub returns-clause-row_done : goal.returns-clause-row_done
-returns-clause-row_done c = bound_row Nested _ _ _ _ _ _ _ c.args.k (omega (arith, c.if-k-eq0.false)) (omega (arith, c.if-h-k.false)) _ c.try_folds-b.auto.work c.requires.row_asks c.try_folds-b.ensures.word_done
+returns-clause-row_done c =
+    bound_row Nested _ _ _ _ _ _ _ c.args.k (omega (arith, c.if-k-eq0.false)) (omega (arith, c.if-h-k.false)) _
+    c.try_folds-b.auto.work c.requires.row_asks c.try_folds-b.ensures.word_done

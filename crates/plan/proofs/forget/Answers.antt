@@ -9,9 +9,8 @@ pub loop-k-init : goal.loop-k-init
 loop-k-init c = (forget_none _ _, omega arith)
 
 pub loop-k-preserved : goal.loop-k-preserved
-loop-k-preserved c = (forget_more _ _ _ _ (omega (arith, c.requires.1, c.loop-k.invariant.0.kept.long)) c.loop-k.invariant.0, omega arith)
-
--- NOGOAL same-length: c.before.loop.invariant.0.kept.long
+loop-k-preserved c =
+    (forget_more _ _ _ _ (omega (arith, c.requires.1, c.loop-k.invariant.0.kept.long)) c.loop-k.invariant.0, omega arith)
 
 pub returns : goal.returns
 returns c = let z : c.loop-k.k ≡ c.args.count = omega (arith, c.loop-k.invariant.1) in rw z at c.loop-k.invariant.0

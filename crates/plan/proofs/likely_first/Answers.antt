@@ -12,4 +12,5 @@ pub returns-clause-result_value : goal.returns-clause-result_value
 returns-clause-result_value c = c.first_group.ensures.result_value
 
 pub returns-clause-row_done : goal.returns-clause-row_done
-returns-clause-row_done c = row_again _ _ _ _ _ _ c.args.kind _ _ _ c.likely_bound-bound.ensures.row_done c.first_group.ensures.row_done
+returns-clause-row_done c =
+    row_again _ _ _ _ _ _ c.args.kind _ _ _ c.likely_bound-bound.ensures.row_done c.first_group.ensures.row_done

@@ -11,11 +11,11 @@ returns-then-file-lt7 c = rw (lt-ltb _ _ c.if-file-lt7.true)
 
 pub returns-then-not-letters_stand : goal.returns-then-not-letters_stand
 unfolding header_of
-returns-then-not-letters_stand c = rw (le-ltb _ _ c.if-file-lt7.false, ← c.letters_stand.ensures, c.if-not-letters_stand.true-raw)
+returns-then-not-letters_stand c = rw (le-ltb _ _ c.if-file-lt7.false, ← c.letters_stand.ensures, c.if-not-letters_stand.true)
 
 pub returns-then-not-version_stands : goal.returns-then-not-version_stands
 unfolding header_of
-returns-then-not-version_stands c = rw (le-ltb _ _ c.if-file-lt7.false, ← c.letters_stand.ensures, c.if-not-letters_stand.false, ← c.word_at.ensures, ← c.version_stands.ensures, c.if-not-version_stands.true-raw)
+returns-then-not-version_stands c = rw (le-ltb _ _ c.if-file-lt7.false, ← c.letters_stand.ensures, c.if-not-letters_stand.false, ← c.word_at.ensures, ← c.version_stands.ensures, c.if-not-version_stands.true)
 
 pub overflow_mul-bytes_each : goal.overflow_mul-bytes_each
 overflow_mul-bytes_each c = omega (arith, most_bytes c.args.file.now c.bytes_each.result c.word_at-n.result c.bytes_each.ensures.value, c.word_at-n.ensures)

@@ -9,16 +9,7 @@ pub returns-then-each-eq0-clause-value : goal.returns-then-each-eq0-clause-value
 returns-then-each-eq0-clause-value c = (empty _ _ (ap length (sym c.lookup-each.ensures) ∙ c.if-each-eq0.true)).0
 
 pub returns-then-each-eq0-clause-file_value : goal.returns-then-each-eq0-clause-file_value
-returns-then-each-eq0-clause-file_value c = (empty _ _ (ap length (sym c.lookup-each.ensures) ∙ c.if-each-eq0.true)).1.0
-
-pub returns-then-each-eq0-clause-wrote : goal.returns-then-each-eq0-clause-wrote
-returns-then-each-eq0-clause-wrote c = (empty _ _ (ap length (sym c.lookup-each.ensures) ∙ c.if-each-eq0.true)).1.1.0
-
-pub returns-then-each-eq0-clause-plain_count : goal.returns-then-each-eq0-clause-plain_count
-returns-then-each-eq0-clause-plain_count c = (empty _ _ (ap length (sym c.lookup-each.ensures) ∙ c.if-each-eq0.true)).1.1.1.0
-
-pub returns-then-each-eq0-clause- : goal.returns-then-each-eq0-clause-
-returns-then-each-eq0-clause- c = (empty _ _ (ap length (sym c.lookup-each.ensures) ∙ c.if-each-eq0.true)).1.1.1.1
+returns-then-each-eq0-clause-file_value c = (empty _ _ (ap length (sym c.lookup-each.ensures) ∙ c.if-each-eq0.true)).1
 
 pub overflow_sub-result : goal.overflow_sub-result
 overflow_sub-result c = omega (arith, (found c.args.file.now c.args.number _ (ap length c.lookup-each.ensures) c.if-each-eq0.false).some)

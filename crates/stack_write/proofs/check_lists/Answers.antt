@@ -19,21 +19,21 @@ lists_stand-requires c = omega (arith, c.most.ensures)
 
 pub returns-then-not-lists_stand : goal.returns-then-not-lists_stand
 unfolding stack_of
-returns-then-not-lists_stand c = rw (tabulate-length, ne_eqb _ _ c.if-n-eq0.false, le-ltb 256 (length c.args.heights.now) (omega (arith, c.most.ensures)), ← c.lists_stand.ensures, c.if-not-lists_stand.true-raw)
+returns-then-not-lists_stand c = rw (tabulate-length, ne_eqb _ _ c.if-n-eq0.false, le-ltb 256 (length c.args.heights.now) (omega (arith, c.most.ensures)), ← c.lists_stand.ensures, c.if-not-lists_stand.true)
 
 pub lists_stand-requires-2 : goal.lists_stand-requires-2
 lists_stand-requires-2 c = omega (arith, c.most.ensures)
 
 pub returns-then-not-lists_stand-2 : goal.returns-then-not-lists_stand-2
 unfolding stack_of
-returns-then-not-lists_stand-2 c = rw (tabulate-length, ne_eqb _ _ c.if-n-eq0.false, le-ltb 256 (length c.args.heights.now) (omega (arith, c.most.ensures)), ← c.lists_stand.ensures, c.if-not-lists_stand.false, ← c.lists_stand-2.ensures, c.if-not-lists_stand-2.true-raw)
+returns-then-not-lists_stand-2 c = rw (tabulate-length, ne_eqb _ _ c.if-n-eq0.false, le-ltb 256 (length c.args.heights.now) (omega (arith, c.most.ensures)), ← c.lists_stand.ensures, c.if-not-lists_stand.false, ← c.lists_stand-2.ensures, c.if-not-lists_stand-2.true)
 
 pub lists_stand-requires-3 : goal.lists_stand-requires-3
 lists_stand-requires-3 c = omega (arith, c.most.ensures)
 
 pub returns-then-not-lists_stand-3 : goal.returns-then-not-lists_stand-3
 unfolding stack_of
-returns-then-not-lists_stand-3 c = rw (tabulate-length, ne_eqb _ _ c.if-n-eq0.false, le-ltb 256 (length c.args.heights.now) (omega (arith, c.most.ensures)), ← c.lists_stand.ensures, c.if-not-lists_stand.false, ← c.lists_stand-2.ensures, c.if-not-lists_stand-2.false, ← c.lists_stand-3.ensures, c.if-not-lists_stand-3.true-raw)
+returns-then-not-lists_stand-3 c = rw (tabulate-length, ne_eqb _ _ c.if-n-eq0.false, le-ltb 256 (length c.args.heights.now) (omega (arith, c.most.ensures)), ← c.lists_stand.ensures, c.if-not-lists_stand.false, ← c.lists_stand-2.ensures, c.if-not-lists_stand-2.false, ← c.lists_stand-3.ensures, c.if-not-lists_stand-3.true)
 
 pub returns : goal.returns
 unfolding stack_of
