@@ -13,9 +13,14 @@ get-requires c = omega (arith, c.loop-k-test.true, c.requires.same)
 
 pub overflow_add-count : goal.overflow_add-count
 overflow_add-count c =
-    omega (arith, c.loop-k.invariant.most, c.loop-k-test.true, c.requires.few,
-    product_most c.requires c.loop-k.invariant c.loop-k-test.true _ _ _ c.get-high.ensures.value c.get.ensures.value
-    c.product-count.ensures)
+    omega (
+      arith,
+      c.loop-k.invariant.most,
+      c.loop-k-test.true,
+      c.requires.few,
+      product_most c.requires c.loop-k.invariant c.loop-k-test.true _ _ _ c.get-high.ensures.value c.get.ensures.value
+          c.product-count.ensures,
+    )
 
 pub overflow_add-k : goal.overflow_add-k
 overflow_add-k c = omega (arith, c.loop-k-test.true, c.requires.few)

@@ -18,28 +18,41 @@ returns-then-most-flat c =
     c.flat_of-flat.ensures c.if-most-flat.true
 
 pub first_guess-first-requires : goal.first_guess-first-requires
-first_guess-first-requires c =
-    (c.flat_of-flat.ensures.cells_most, slim_some (stacked _ _ _ _ c.requires.0.lists c.requires.0.some c.requires.0.free)
-    c.flat_of-flat.ensures _ c.if-most-flat.false)
+first_guess-first-requires c = (
+  c.flat_of-flat.ensures.cells_most,
+  slim_some (stacked _ _ _ _ c.requires.0.lists c.requires.0.some c.requires.0.free)
+      c.flat_of-flat.ensures _ c.if-most-flat.false,
+)
 
 pub least_height-least-requires : goal.least_height-least-requires
 least_height-least-requires c =
-    record { plan = plan_asks _ _ _ _ _ _ c.requires.0 (omega arith) _ _ _ refl refl refl;
-    w_some = slim_some (stacked _ _ _ _ c.requires.0.lists c.requires.0.some c.requires.0.free) c.flat_of-flat.ensures _
-    c.if-most-flat.false; w_most = c.requires.1; between = starts _ _
-    (stacked _ _ _ _ c.requires.0.lists c.requires.0.some c.requires.0.free) _ c.requires.1 _ c.flat_of-flat.ensures
-    c.if-most-flat.false }
+    record {
+      plan = plan_asks _ _ _ _ _ _ c.requires.0 (omega arith) _ _ _ refl refl refl;
+      w_some = slim_some (stacked _ _ _ _ c.requires.0.lists c.requires.0.some c.requires.0.free) c.flat_of-flat.ensures _
+          c.if-most-flat.false;
+      w_most = c.requires.1;
+      between = starts _ _
+          (stacked _ _ _ _ c.requires.0.lists c.requires.0.some c.requires.0.free) _ c.requires.1 _ c.flat_of-flat.ensures
+          c.if-most-flat.false;
+    }
 
 pub write_best-requires-clause-foldable : goal.write_best-requires-clause-foldable
-write_best-requires-clause-foldable c =
-    (plannable_again c.requires.0 c.least_height-least.auto.work,
-    omega (arith, c.flat_of-flat.ensures.low, c.least_height-least.ensures.least_for.most), c.requires.2)
+write_best-requires-clause-foldable c = (
+  plannable_again c.requires.0 c.least_height-least.auto.work,
+  omega (arith, c.flat_of-flat.ensures.low, c.least_height-least.ensures.least_for.most),
+  c.requires.2,
+)
 
 pub write_best-requires-clause-replannable : goal.write_best-requires-clause-replannable
-write_best-requires-clause-replannable c =
-    (plan_asks _ _ _ _ _ _ (plannable_again c.requires.0 c.least_height-least.auto.work) (omega (arith,
-    c.flat_of-flat.ensures.low, c.least_height-least.ensures.least_for.most)) _ _ _ c.least_height-least.auto.widths
-    c.least_height-least.auto.heights c.least_height-least.auto.ends, λ h. c.least_height-least.ensures.held (omega arith))
+write_best-requires-clause-replannable c = (
+  plan_asks _ _ _ _ _ _ (plannable_again c.requires.0 c.least_height-least.auto.work) (omega (
+    arith,
+    c.flat_of-flat.ensures.low,
+    c.least_height-least.ensures.least_for.most,
+  )) _ _ _ c.least_height-least.auto.widths
+      c.least_height-least.auto.heights c.least_height-least.auto.ends,
+  λ h. c.least_height-least.ensures.held (omega arith),
+)
 
 pub returns : goal.returns
 returns c =

@@ -5,13 +5,6 @@ use native.Mathlib.Omega.{arith}
 use Rattle.group_height.proofs.over_folds.Goals as goal
 use Rattle.group_height.proofs.over_folds.Goals.{then-t-v, else-t-v}
 
-pub overflow_add-v : goal.overflow_add-v
-overflow_add-v c = omega (arith, c.requires.small 0 c.requires.some, c.requires.first_low)
-
-pub overflow_add-v-2 : goal.overflow_add-v-2
-overflow_add-v-2 c =
-    omega (arith, c.requires.small 0 c.requires.some, c.requires.first_low, c.gap-last.ensures.upper_bound)
-
 pub loop-p-init : goal.loop-p-init
 loop-p-init c = pass_start c.requires _ (omega (arith, c.gap-last.ensures.value))
 
@@ -21,9 +14,6 @@ fold_rows-requires c = (
   omega arith,
   omega (arith, c.larger-most.ensures, c.gap-last.ensures.value, c.requires.first_low, c.requires.gaps_low (length c.args.g.now - 1)),
 )
-
-pub overflow_add-t : goal.overflow_add-t
-overflow_add-t c = omega (arith, c.fold_cell.ensures, c.requires.small c.loop-p.p c.loop-p-test.true, c.fold_rows.ensures.1)
 
 pub loop-p-preserved : goal.loop-p-preserved
 loop-p-preserved c =

@@ -1,12 +1,9 @@
-use Prim.Native.Nat.{◌-◌, ◌≤◌, ◌<◌}
-use lib.ListN.{length, drop}
-use Rattle.folding.specs.Asks.{placed_at, placed_in}
-use Rattle.folding.specs.Placement.{start_of, height_of}
-use Rattle.folding.specs.Legal.{legal}
-use Rattle.folding.proofs.Rules.{passes, alone_is}
+use lib.ListN.{length}
+use Rattle.folding.specs.Asks.{placed_at}
+use Rattle.folding.proofs.Rules.{alone_is}
 use Rattle.legality.proofs.Passes.{pass_unopened, opened_low, pass_opened, pass_alone, pass_broken, pass_parted, pass_on, pass_done}
 use native.Mathlib.Omega.{arith}
-use mathlib.Core.Path.{◌≡◌, sym, ◌∙◌}
+use mathlib.Core.Path.{sym, ◌∙◌}
 use Rattle.legality.proofs.is_legal.Goals as goal
 
 pub returns-then-not-may_open : goal.returns-then-not-may_open

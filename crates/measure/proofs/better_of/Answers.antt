@@ -1,5 +1,4 @@
 use mathlib.Core.Path.{◌∙◌}
-use borrow.Author.Rules.{rules}
 use Rattle.measure.proofs.better_of.Goals as goal
 
 pub returns : goal.returns

@@ -1,9 +1,6 @@
 use Rattle.outline.proofs.Steps.{from_more}
-use Prim.Native.Nat.{ℕ, ◌-◌, ◌≤◌, ◌<◌}
-use Rattle.folding.specs.Asks.{group_at}
 use native.Mathlib.Omega.{arith}
 use mathlib.Core.Path.{◌≡◌}
-use borrow.Author.Rules.{rules}
 use Rattle.outline.proofs.group_end.Goals as goal
 
 pub loop-to-init : goal.loop-to-init

@@ -2,7 +2,6 @@ use mathlib.Core.List.{[]}
 use Rattle.outline.proofs.Chains.{chains_of}
 use Rattle.outline.proofs.Placing.{has_left, height_folded, height_flat}
 use native.Mathlib.Omega.{arith}
-use borrow.Author.Rules.{rules}
 use Rattle.outline.proofs.group_height.Goals as goal
 
 pub top-t-requires : goal.top-t-requires

@@ -1,5 +1,4 @@
 use Rattle.outline.proofs.Chains.{chains_of}
-use borrow.Author.Rules.{rules}
 use Rattle.outline.proofs.group_outline.Goals as goal
 
 pub group_width-requires : goal.group_width-requires

@@ -1,7 +1,5 @@
-use lib.ListN.{length}
-use Prim.Native.Nat.{◌+◌, ◌-◌}
 use Rattle.outline.proofs.Chains.{stands_at}
-use Rattle.outline.proofs.Sweep.{Swept, sweep_start, sweep_left, sweep_right, sweep_done}
+use Rattle.outline.proofs.Sweep.{sweep_start, sweep_left, sweep_right, sweep_done}
 use native.Mathlib.Omega.{arith}
 use Rattle.outline.proofs.group_width.Goals as goal
 

@@ -1,8 +1,6 @@
 use lib.ListN.{length}
 use Prim.Native.Nat.{◌+◌, ◌-◌}
-use Rattle.outline.proofs.Chains.{stands_at}
-use Rattle.outline.proofs.Sweep.{Swept, sweep_start, sweep_left, sweep_right, sweep_done}
-use native.Mathlib.Omega.{arith}
+use Rattle.outline.proofs.Sweep.{Swept}
 use Rattle.outline.proofs.group_width.Given as goal
 
 abbrev pub invariant-loop-high : goal.invariant-loop-high

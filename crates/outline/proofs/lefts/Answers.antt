@@ -1,9 +1,5 @@
 use borrow.Author.Count.{below_more}
-use Prim.Native.Nat.{ℕ, ◌-◌, ◌≤◌, ◌<◌}
-use Rattle.folding.specs.Asks.{side_at}
 use native.Mathlib.Omega.{arith}
-use mathlib.Core.Path.{◌≡◌}
-use borrow.Author.Rules.{rules}
 use Rattle.outline.proofs.lefts.Goals as goal
 
 pub loop-k-init : goal.loop-k-init

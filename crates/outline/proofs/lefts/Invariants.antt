@@ -1,9 +1,6 @@
-use borrow.Author.Count.{below_more}
 use Prim.Native.Nat.{ℕ, ◌-◌, ◌≤◌, ◌<◌}
 use Rattle.folding.specs.Asks.{side_at}
-use native.Mathlib.Omega.{arith}
 use mathlib.Core.Path.{◌≡◌}
-use borrow.Author.Rules.{rules}
 use Rattle.outline.proofs.lefts.Given as goal
 
 abbrev pub invariant-loop-k : goal.invariant-loop-k

@@ -1,9 +1,6 @@
 use Rattle.folding.proofs.StartRows.{all_at_start}
-use Prim.Native.Nat.{◌-◌}
-use lib.ListN.{length}
-use Rattle.outline.proofs.Walk.{Walked, walk_start, group_in, walk_on, walk_done}
+use Rattle.outline.proofs.Walk.{walk_start, group_in, walk_on, walk_done}
 use native.Mathlib.Omega.{arith}
-use borrow.Author.Rules.{rules}
 use Rattle.outline.proofs.outline_of.Goals as goal
 
 pub loop-from-init : goal.loop-from-init

@@ -1,6 +1,5 @@
 use Rattle.outline.proofs.Chains.{stands_at, top_ends}
 use native.Mathlib.Omega.{arith}
-use borrow.Author.Rules.{rules}
 use Rattle.outline.proofs.top.Goals as goal
 
 pub end_at-requires : goal.end_at-requires

@@ -48,18 +48,29 @@ pub try_folds-b-requires : goal.try_folds-b-requires
 try_folds-b-requires c =
     let q = bound_asks c.requires.first_asks c.args.k (omega (arith, c.if-k-eq0.false)) (omega (arith, c.if-h-k.false))
     c.sizes_of-s.result c.sizes_of-s.ensures _ c.rest_at-rest.ensures in
-    record { group_asks = q.0; packed = q.1; word_asks = bound_word Nested _ _ _ _ _ _ _ c.args.k (omega (arith,
-    c.if-k-eq0.false)) (omega (arith, c.if-h-k.false)) c.requires.row_asks;
-    g_value = first_free _ _ _ c.args.k (omega (arith, c.if-k-eq0.false)) (omega (arith, c.if-h-k.false))
-    (sym c.barred.ensures ∙ c.if-barred.false) }
+    record {
+      group_asks = q.0;
+      packed = q.1;
+      word_asks = bound_word Nested _ _ _ _ _ _ _ c.args.k (omega (
+        arith,
+        c.if-k-eq0.false,
+      )) (omega (arith, c.if-h-k.false)) c.requires.row_asks;
+      g_value = first_free _ _ _ c.args.k (omega (arith, c.if-k-eq0.false)) (omega (arith, c.if-h-k.false))
+          (sym c.barred.ensures ∙ c.if-barred.false);
+    }
 
 pub overflow_add-b : goal.overflow_add-b
 overflow_add-b c =
-    omega (arith, bound_low c.requires.first_asks c.args.k (omega (arith, c.if-k-eq0.false)) (omega (arith,
-    c.if-h-k.false)) c.sizes_of-s.result c.sizes_of-s.ensures _ c.rest_at-rest.ensures c.try_folds-b.result
-    (first_tried Nested c.args.limit.0 c.args.g0.0 c.args.k c.args.h.now
-    (components_in (take c.args.k c.args.h.now) (take c.args.k c.args.w.now) (take c.args.k c.args.g.now))
-    (layout_in c.rest_at-rest.result) unmet _ (omega (arith, c.if-h-k.false)) c.try_folds-b.ensures.result_value))
+    omega (
+      arith,
+      bound_low c.requires.first_asks c.args.k (omega (arith, c.if-k-eq0.false)) (omega (
+        arith,
+        c.if-h-k.false,
+      )) c.sizes_of-s.result c.sizes_of-s.ensures _ c.rest_at-rest.ensures c.try_folds-b.result
+          (first_tried Nested c.args.limit.0 c.args.g0.0 c.args.k c.args.h.now
+          (components_in (take c.args.k c.args.h.now) (take c.args.k c.args.w.now) (take c.args.k c.args.g.now))
+          (layout_in c.rest_at-rest.result) unmet _ (omega (arith, c.if-h-k.false)) c.try_folds-b.ensures.result_value),
+    )
 
 pub returns-clause-under : goal.returns-clause-under
 returns-clause-under c =

@@ -34,18 +34,30 @@ try_first-best-requires c =
     let q = next_asks c.requires.first_asks _ c.requires.under c.loop-k.invariant.0 c.loop-k-test.true _ _
     c.wide-tall.ensures.value c.most_rows-most.ensures.result_value c.if-most-tall.false
     c.most_rows-most.ensures.result_le_none _ _ c.wide.ensures.value c.larger-widest.ensures _ c.rest_at-rest.ensures in
-    record { group_asks = q.0; packed = q.1;
-    word_asks = row_word _ _ _ _ _ _ c.loop-k.k c.loop-k-test.true c.args.kind _ _ c.loop-k.invariant.2;
-    k_in_bounds = (omega (arith, c.loop-k-test.true), omega (arith, c.loop-k-test.true,
-    c.requires.first_asks.lists.same_widths), omega (arith, c.loop-k-test.true, c.requires.first_asks.lists.same_seams)) }
+    record {
+      group_asks = q.0;
+      packed = q.1;
+      word_asks = row_word _ _ _ _ _ _ c.loop-k.k c.loop-k-test.true c.args.kind _ _ c.loop-k.invariant.2;
+      k_in_bounds = (
+        omega (arith, c.loop-k-test.true),
+        omega (
+          arith,
+          c.loop-k-test.true,
+          c.requires.first_asks.lists.same_widths,
+        ),
+        omega (arith, c.loop-k-test.true, c.requires.first_asks.lists.same_seams),
+      );
+    }
 
 pub loop-k-preserved : goal.loop-k-preserved
-loop-k-preserved c =
-    (scan_more c.requires.first_asks _ c.requires.under c.loop-k.invariant.0 c.loop-k-test.true _ _ c.wide-tall.ensures.value
-    c.most_rows-most.ensures.result_value c.if-most-tall.false c.most_rows-most.ensures.result_le_none _ _
-    c.wide.ensures.value c.larger-widest.ensures _ c.rest_at-rest.ensures _ c.try_first-best.ensures.result_value,
-    omega (arith, c.loop-k.invariant.1), row_more _ _ _ _ _ _ c.loop-k.k c.loop-k-test.true c.args.kind _ _ _
-    c.try_first-best.auto.work c.loop-k.invariant.2 c.try_first-best.ensures.word_done)
+loop-k-preserved c = (
+  scan_more c.requires.first_asks _ c.requires.under c.loop-k.invariant.0 c.loop-k-test.true _ _ c.wide-tall.ensures.value
+      c.most_rows-most.ensures.result_value c.if-most-tall.false c.most_rows-most.ensures.result_le_none _ _
+      c.wide.ensures.value c.larger-widest.ensures _ c.rest_at-rest.ensures _ c.try_first-best.ensures.result_value,
+  omega (arith, c.loop-k.invariant.1),
+  row_more _ _ _ _ _ _ c.loop-k.k c.loop-k-test.true c.args.kind _ _ _
+      c.try_first-best.auto.work c.loop-k.invariant.2 c.try_first-best.ensures.word_done,
+)
 
 pub returns-clause-result_value : goal.returns-clause-result_value
 returns-clause-result_value c = scan_done c.requires.first_asks _ c.requires.under c.loop-k.invariant.0 c.loop-k-test.false

@@ -23,8 +23,15 @@ best_from-b-requires-clause-row_asks c = entry_row c.requires c.ready_row.new.wo
 
 pub best_from-b-requires-clause-row_le_most_row : goal.best_from-b-requires-clause-row_le_most_row
 best_from-b-requires-clause-row_le_most_row c =
-    omega (arith, c.requires.row_is, row_low (length c.args.h.now - c.args.i) (omega (arith, c.requires.asks.lists.few,
-    most_256 c.args.kind)))
+    omega (
+      arith,
+      c.requires.row_is,
+      row_low (length c.args.h.now - c.args.i) (omega (
+        arith,
+        c.requires.asks.lists.few,
+        most_256 c.args.kind,
+      )),
+    )
 
 pub offset_bounds-widths-i : goal.offset_bounds-widths-i
 offset_bounds-widths-i c = omega (arith, c.requires.within, c.requires.asks.lists.few, most_256 c.args.kind)

@@ -45,8 +45,14 @@ returns-then-n-ge-NONE-clause-word_done c =
 
 pub overflow_add-n : goal.overflow_add-n
 overflow_add-n c =
-    omega (arith, c.if-n-ge-NONE.false, c.if-bound-rest.false, c.too_wide-bound.ensures.result_bound,
-    best_low c.requires.group_asks, wide_some c.requires.group_asks)
+    omega (
+      arith,
+      c.if-n-ge-NONE.false,
+      c.if-bound-rest.false,
+      c.too_wide-bound.ensures.result_bound,
+      best_low c.requires.group_asks,
+      wide_some c.requires.group_asks,
+    )
 
 pub count-requires : goal.count-requires
 count-requires c = omega (arith, c.requires.group_asks.lists.few)
@@ -54,8 +60,13 @@ count-requires c = omega (arith, c.requires.group_asks.lists.few)
 pub returns-clause-result_value : goal.returns-clause-result_value
 returns-clause-result_value c =
     folds_tried c.requires.group_asks _ c.too_wide-bound.ensures.width_le_result _ _ _ c.lesser.ensures
-    c.narrowest-n.ensures.narrow _ _ _ (omega (arith, c.if-bound-rest.false, c.too_wide-bound.ensures.result_bound,
-    best_low c.requires.group_asks, wide_some c.requires.group_asks)) c.if-n-ge-NONE.false c.larger.ensures c.count.ensures
+    c.narrowest-n.ensures.narrow _ _ _ (omega (
+      arith,
+      c.if-bound-rest.false,
+      c.too_wide-bound.ensures.result_bound,
+      best_low c.requires.group_asks,
+      wide_some c.requires.group_asks,
+    )) c.if-n-ge-NONE.false c.larger.ensures c.count.ensures
     c.pick.ensures
 
 pub returns-clause-word_done : goal.returns-clause-word_done

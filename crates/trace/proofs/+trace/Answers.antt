@@ -14,8 +14,13 @@ put_first-requires t c = put_asks _ _ _ _ _ _ _ _ _ _ c.requires c.if-h-gt0.true
 
 pub trace-requires : goal.trace-requires
 trace-requires t c = (
-  omega (arith, from-length c.first_end-k.result c.args.h.now, c.first_end-k.ensures.1, c.first_end-k.ensures.2,
-  c.decreases),
+  omega (
+    arith,
+    from-length c.first_end-k.result c.args.h.now,
+    c.first_end-k.ensures.1,
+    c.first_end-k.ensures.2,
+    c.decreases,
+  ),
   again
       _ _ _ _ _ _ _ _ _ _
       c.requires
