@@ -30,9 +30,11 @@ flat_next ps i h = let e : i + 1 ≡ suc i = omega arith in
 
 -- The numbers of one placement more, behind those of the others before it.
 pub flat_put : (ps : List Placement) (i : ℕ) (xs zs : List ℕ) → i < length ps → take (3 * i) xs ≡ flat_of (take i ps)
-    → take (3 * i + 3) zs ≡ take (3 * i) xs ++ ((get_or ps i none).group ∷ (get_or ps i none).side ∷ (get_or ps i none).start ∷ [])
+    → take (3 * i + 3) zs
+    ≡ take (3 * i) xs ++ ((get_or ps i none).group ∷ (get_or ps i none).side ∷ (get_or ps i none).start ∷ [])
     → take (3 * (i + 1)) zs ≡ flat_of (take (i + 1) ps)
 flat_put ps i xs zs h e k =
+    let p : Placement = get_or ps i none in
     let three_more : 3 * (i + 1) ≡ 3 * i + 3 = omega arith in
-    ap (λ (m : ℕ). take m zs) three_more ∙ k ∙ ap (λ (us : List ℕ). us ++ ((get_or ps i none).group ∷ (get_or ps i none).side ∷ (get_or ps i none).start ∷ [])) e
+    ap (λ (m : ℕ). take m zs) three_more ∙ k ∙ ap (λ (us : List ℕ). us ++ (p.group ∷ p.side ∷ p.start ∷ [])) e
     ∙ sym (flat_next ps i h)

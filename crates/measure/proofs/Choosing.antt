@@ -48,7 +48,8 @@ module _ (kind : Kind) (file first second : List ℕ) where
     second_long w = let v = second_measured (measure_in kind cs first) (measure_in kind cs second) w in omega (arith, long kind cs second v.0 v.1)
 
 -- What was chosen from the lists that were read.
-module _ {kind : Kind} {file : List ℕ} {n : ℕ} {heights widths seams : List ℕ} (h : Held kind file n heights widths seams) where
+module _ {kind : Kind} {file : List ℕ} {n : ℕ} {heights widths seams : List ℕ}
+    (h : Held kind file n heights widths seams) where
   pub outcome : (first second : List ℕ) {w : Winner} → w ≡ better_first kind n heights widths seams first second
       → w ≡ winner_is (measure_in kind h.components first) (measure_in kind h.components second)
   outcome first second e = rw (components_held h) at e

@@ -1,5 +1,6 @@
 // Small functions on numbers, columns of 16-bit numbers and tables.
 #![tactic(auto)]
+
 ghost use Rattle.std.specs.Prelude.{◌≡◌, ◌+◌, ◌*◌, ◌≤◌, ◌<◌, min, max, length, get_or};
 ghost use Rattle.terms.specs.Numbers.{most_nested};
 ghost use Rattle.terms.specs.Seams.{gap_at, mark_at, barred_at, component_in};

@@ -35,9 +35,9 @@ unfolding mixed_file front header_of stack_of every tabulate
 mixed = refl
 
 -- a last gap of 1
-last_gap_lem : check_of Apart (front ++ (5 ∷ 0 ∷ 6 ∷ 0 ∷ 0 ∷ 0 ∷ 7 ∷ 0 ∷ 1 ∷ 0 ∷ 1 ∷ 0 ∷ [])) ≡ refusal 6
+last_gap : check_of Apart (front ++ (5 ∷ 0 ∷ 6 ∷ 0 ∷ 0 ∷ 0 ∷ 7 ∷ 0 ∷ 1 ∷ 0 ∷ 1 ∷ 0 ∷ [])) ≡ refusal 6
 unfolding front header_of stack_of every tabulate
-last_gap_lem = refl
+last_gap = refl
 
 short : check_of Apart front ≡ refusal 3
 unfolding front header_of

@@ -1,5 +1,6 @@
 // Stack files: the check, the reading and the lookup by component number.
 #![tactic(auto)]
+
 ghost use Rattle.std.specs.Prelude.{◌≡◌, ◌||◌, ◌+◌, ◌*◌, ◌≤◌, ◌<◌, min, eqb, length};
 ghost use Rattle.terms.specs.Numbers.{most_apart};
 ghost use Rattle.terms.specs.Answer.{count_answer};

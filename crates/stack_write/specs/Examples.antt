@@ -26,9 +26,9 @@ low : write_of (0 ∷ []) (1 ∷ []) (9 ∷ []) (9 ∷ []) 0 ≡ refusal 5
 unfolding stack_of every tabulate
 low = refl
 
-last_gap_lem : write_of (1 ∷ []) (1 ∷ []) (9 ∷ []) (9 ∷ []) 0 ≡ refusal 6
+last_gap : write_of (1 ∷ []) (1 ∷ []) (9 ∷ []) (9 ∷ []) 0 ≡ refusal 6
 unfolding stack_of every tabulate
-last_gap_lem = refl
+last_gap = refl
 
 last_mark : write_of (1 ∷ []) (1 ∷ []) (0 ∷ []) (1 ∷ []) 0 ≡ refusal 11
 unfolding stack_of every tabulate

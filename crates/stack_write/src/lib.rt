@@ -1,5 +1,6 @@
 // The writer of stack files.
 #![tactic(auto)]
+
 ghost use Rattle.std.specs.Prelude.{◌≡◌, [], ◌∷◌, ◌++◌, ◌+◌, ◌*◌, ◌≤◌, ◌<◌, length, drop};
 ghost use Rattle.terms.specs.Numbers.{most_apart};
 ghost use Rattle.terms.specs.Answer.{count_answer};

@@ -6,7 +6,7 @@ use mathlib.Core.Bool.{Bool, true, false}
 use native.Mathlib.Omega.{arith}
 use lib.ListN.{length, get_or, get_or-map}
 use lib.Seq.{ext_get_or}
-use lib.Dec.{leb, eqb}
+use lib.Dec.{leb}
 use borrow.Author.Tests.{leb-true, eqb-true}
 use Rattle.terms.specs.declared.Component.{Component}
 use Rattle.terms.specs.Component.{in_size, good_size, good_mark, ends, every, tabulate}

@@ -1,5 +1,6 @@
 // The terms that every call shares: components, rows and slices, kinds, refusals, positions.
 #![tactic(auto)]
+
 ghost use Rattle.std.specs.Prelude.{◌≡◌, true};
 ghost use Rattle.terms.specs.Answer.{number_of};
 ghost use Rattle.terms.specs.Component.{in_size, most_of, good_size, good_gap, good_mark, rule_of};

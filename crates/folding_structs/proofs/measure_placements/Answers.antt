@@ -12,5 +12,6 @@ loop-i-preserved c = (
 
 pub returns : goal.returns
 returns c = c.measure_flat.ensures
-    ∙ all_read c.args.kind c.args.file.now c.args.placements.now c.at_most-n.result c.loop-i.i c.loop-i.numbers (omega arith)
+    ∙ all_read c.args.kind c.args.file.now c.args.placements.now c.at_most-n.result c.loop-i.i c.loop-i.numbers
+    (omega arith)
     c.at_most-n.ensures c.loop-i.invariant.1

@@ -11,9 +11,6 @@ narrowest-fit-requires c = part_asks c.requires
 pub note-requires : goal.note-requires
 note-requires c = found_small c.requires.asks c.narrowest-fit.ensures.narrow
 
-pub returns-clause-narrow : goal.returns-clause-narrow
-returns-clause-narrow c = c.narrowest-fit.ensures.narrow
-
 pub returns-clause-remembered : goal.returns-clause-remembered
 returns-clause-remembered c =
     searched c.requires c.narrowest-fit.new.e (c.narrowest-fit.auto.e ∙ part_long c.requires)

@@ -2,12 +2,6 @@ use Rattle.group_search.proofs.Halves.{cap_low, low_asks, asks_at, not_met, high
 use native.Mathlib.Omega.{arith}
 use Rattle.group_search.proofs.narrowest.Goals as goal
 
-pub first_cap-top-requires : goal.first_cap-top-requires
-first_cap-top-requires c = c.requires.to
-
-pub borders-requires : goal.borders-requires
-borders-requires c = low_asks c.requires
-
 pub search-first-requires : goal.search-first-requires
 search-first-requires c = asks_at c.requires _ _ c.borders.ensures c.first_cap-top.ensures.to
 
@@ -24,14 +18,6 @@ loop-lo-init c =
     halves_start c.requires c.first_cap-top.ensures c.search-first.ensures.searched c.larger-hi.ensures
     c.search-first.ensures.bordered c.if-limit-first.false
 
-pub overflow_add-mid : goal.overflow_add-mid
-overflow_add-mid c = omega (
-  arith,
-  c.loop-lo.invariant.to,
-  high_low c.requires c.first_cap-top.ensures c.search-first.ensures.searched c.larger-hi.ensures,
-  cap_low c.requires,
-)
-
 pub search-run-requires : goal.search-run-requires
 search-run-requires c = asks_at c.requires _ _ c.loop-lo.invariant.borders (omega (
   arith,
@@ -40,18 +26,11 @@ search-run-requires c = asks_at c.requires _ _ c.loop-lo.invariant.borders (omeg
   high_low c.requires c.first_cap-top.ensures c.search-first.ensures.searched c.larger-hi.ensures,
 ))
 
-pub loop-lo-smaller-then-run-limit : goal.loop-lo-smaller-then-run-limit
-loop-lo-smaller-then-run-limit c =
-    omega (arith, c.larger-hi-then-run-limit.ensures, c.search-run.ensures.searched.fits, c.loop-lo-test.true)
-
 pub loop-lo-preserved-then-run-limit : goal.loop-lo-preserved-then-run-limit
 loop-lo-preserved-then-run-limit c =
     met c.requires c.loop-lo.invariant c.search-run.ensures.searched _ c.search-run.auto.e c.search-run.ensures.bordered
     (omega (arith, c.loop-lo-test.true)) (omega (arith, c.loop-lo-test.true)) c.if-run-limit.true
     c.larger-hi-then-run-limit.ensures
-
-pub loop-lo-smaller : goal.loop-lo-smaller
-loop-lo-smaller c = omega (arith, c.lesser-lo.ensures, c.search-run.ensures.searched.clashes, c.loop-lo-test.true)
 
 pub loop-lo-preserved : goal.loop-lo-preserved
 loop-lo-preserved c =

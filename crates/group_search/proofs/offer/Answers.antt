@@ -5,14 +5,8 @@ use Rattle.group_search.proofs.offer.Goals as goal
 pub overflow_add-row : goal.overflow_add-row
 overflow_add-row c = omega (arith, top_low c.requires c.if-x-eq0.true, c.requires.row_low)
 
-pub returns-then-x-eq0 : goal.returns-then-x-eq0
-returns-then-x-eq0 c = offer_top c.requires _ _ c.if-x-eq0.true c.lesser.ensures
-
 pub overflow_add-row-then-y-h : goal.overflow_add-row-then-y-h
 overflow_add-row-then-y-h c = omega (arith, side_low c.requires c.if-y-h.true, c.requires.row_low)
-
-pub returns-then-y-h : goal.returns-then-y-h
-returns-then-y-h c = offer_side c.requires _ _ c.if-y-h.true c.lesser-then-y-h.ensures
 
 pub returns : goal.returns
 returns c = offer_entry c.requires _ c.lesser-v.ensures (omega arith) (omega (arith, c.requires.within)) _

@@ -1,12 +1,6 @@
 use Rattle.group_search.proofs.Turns.{row_start, turn_asks, turn_done, row_ends}
 use Rattle.group_search.proofs.over_row.Goals as goal
 
-pub loop-q-init : goal.loop-q-init
-loop-q-init c = row_start c.requires
-
-pub turn-best-requires : goal.turn-best-requires
-turn-best-requires c = turn_asks c.requires c.loop-q.invariant c.loop-q-test.true
-
 pub loop-q-preserved : goal.loop-q-preserved
 loop-q-preserved c = turn_done c.requires c.loop-q.invariant c.turn-best.auto.e c.loop-q-test.true c.turn-best.ensures
 

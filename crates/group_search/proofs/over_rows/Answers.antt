@@ -1,12 +1,6 @@
 use Rattle.group_search.proofs.Turns.{rows_start, row_asks, row_done, rows_end}
 use Rattle.group_search.proofs.over_rows.Goals as goal
 
-pub loop-p-init : goal.loop-p-init
-loop-p-init c = rows_start c.requires
-
-pub over_row-best-requires : goal.over_row-best-requires
-over_row-best-requires c = row_asks c.requires c.loop-p.invariant c.loop-p-test.true
-
 pub loop-p-preserved : goal.loop-p-preserved
 loop-p-preserved c = row_done c.requires c.loop-p.invariant c.over_row-best.auto.e c.loop-p-test.true c.over_row-best.ensures
 

@@ -17,12 +17,6 @@ pub returns-then-s-end : goal.returns-then-s-end
 returns-then-s-end c =
     left_out c.requires _ (omega (arith, c.if-s-end.true, c.cell-row.ensures, c.cell.ensures, c.larger-rest.ensures))
 
-pub walk-t-requires : goal.walk-t-requires
-walk-t-requires c = walk_asks c.requires _ c.cell-row.ensures
-
-pub settle-requires : goal.settle-requires
-settle-requires c = settle_asks c.requires _ c.cell-row.ensures c.walk-t.ensures.walked
-
 pub returns : goal.returns
 returns c =
     taken c.requires _ c.cell-row.ensures c.walk-t.ensures.walked _ c.settle.ensures.fit_value c.walk-t.ensures.stopped

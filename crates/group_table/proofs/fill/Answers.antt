@@ -1,10 +1,12 @@
-use Rattle.group_table.proofs.Filling.{borders, corner_empty, table_start, row_asks, row_filled, table_ends}
+use Rattle.group_table.proofs.Filling.{borders, corner_empty, table_start, row_filled}
 use native.Mathlib.Omega.{arith}
 use Rattle.group_table.proofs.fill.Goals as goal
 
 pub fill_side-requires : goal.fill_side-requires
-fill_side-requires c =
-    (borders c.args.cap.0 c.requires.columns c.requires.few (omega (arith, c.requires.room, c.fill_top.auto.e)), corner_empty c.args.cap.0 c.requires.columns c.requires.few c.fill_top.new.e c.fill_top.ensures)
+fill_side-requires c = (
+  borders c.args.cap.0 c.requires.columns c.requires.few (omega (arith, c.requires.room, c.fill_top.auto.e)),
+  corner_empty c.args.cap.0 c.requires.columns c.requires.few c.fill_top.new.e c.fill_top.ensures,
+)
 
 pub loop-p-init : goal.loop-p-init
 loop-p-init c =

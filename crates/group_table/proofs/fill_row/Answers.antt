@@ -1,4 +1,4 @@
-use Rattle.group_table.proofs.Filling.{row_start, row_ready, row_stored, row_ends}
+use Rattle.group_table.proofs.Filling.{row_start}
 use Rattle.group_table.proofs.fill_row.Goals as goal
 
 pub loop-q-init : goal.loop-q-init

@@ -1,4 +1,4 @@
-use Rattle.group_table.proofs.Filling.{side_start, side_stored, side_ends}
+use Rattle.group_table.proofs.Filling.{side_start, side_stored}
 use native.Mathlib.Omega.{arith}
 use Rattle.group_table.proofs.fill_side.Goals as goal
 

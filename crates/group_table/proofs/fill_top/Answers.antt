@@ -1,4 +1,4 @@
-use Rattle.group_table.proofs.Filling.{top_start, top_stored, top_ends}
+use Rattle.group_table.proofs.Filling.{top_start, top_stored}
 use native.Mathlib.Omega.{arith}
 use Rattle.group_table.proofs.fill_top.Goals as goal
 

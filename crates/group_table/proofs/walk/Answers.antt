@@ -1,4 +1,4 @@
-use Rattle.group_table.proofs.Walking.{walk_start, ending, walk_ends, to_left, to_right}
+use Rattle.group_table.proofs.Walking.{ending, walk_ends, to_left, to_right}
 use native.Mathlib.Omega.{arith}
 use Rattle.group_table.proofs.walk.Goals as goal
 

@@ -11,4 +11,9 @@ pub group_height-requires-clause-lefts : goal.group_height-requires-clause-lefts
 group_height-requires-clause-lefts c = (c.lefts-k.ensures, c.requires.1)
 
 pub returns : goal.returns
-returns c = record { width_is = c.group_width.ensures.width_is c.args.seams.now; height_is = c.group_height.ensures c.args.widths.now; slim = c.group_width.ensures.result_le_most_width }
+returns c = record {
+  width_is = c.group_width.ensures.width_is c.args.seams.now;
+  height_is = c.group_height.ensures
+      c.args.widths.now;
+  slim = c.group_width.ensures.result_le_most_width;
+}

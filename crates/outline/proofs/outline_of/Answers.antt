@@ -10,10 +10,15 @@ pub group_end-to-requires : goal.group_end-to-requires
 group_end-to-requires c = (c.requires.stack.few, c.requires.flat_long, c.loop-from-test.true)
 
 pub group_outline-group-requires : goal.group_outline-group-requires
-group_outline-group-requires c = (group_in c.requires c.loop-from.invariant c.group_end-to.ensures, c.loop-from.invariant.small)
+group_outline-group-requires c = (
+  group_in c.requires c.loop-from.invariant c.group_end-to.ensures,
+  c.loop-from.invariant.small,
+)
 
 pub loop-from-preserved : goal.loop-from-preserved
-loop-from-preserved c = walk_on c.requires c.loop-from.invariant c.group_end-to.ensures c.group_outline-group.ensures.width_is c.group_outline-group.ensures.height_is c.group_outline-group.ensures.slim c.larger-height.ensures c.gap-before.ensures.value (omega (arith, c.gap-before.ensures.upper_bound))
+loop-from-preserved c = walk_on c.requires c.loop-from.invariant c.group_end-to.ensures
+    c.group_outline-group.ensures.width_is c.group_outline-group.ensures.height_is c.group_outline-group.ensures.slim
+    c.larger-height.ensures c.gap-before.ensures.value (omega (arith, c.gap-before.ensures.upper_bound))
 
 pub returns-clause-value : goal.returns-clause-value
 returns-clause-value c = let d = walk_done c.requires c.loop-from.invariant c.loop-from-test.false in rw (← d.0, ← d.1)

@@ -2,7 +2,6 @@ use mathlib.Core.Path.{sym, ap, ◌∙◌}
 use Rattle.terms.specs.Answer.{count_answer}
 use Rattle.stack.proofs.Valid.{header_is}
 use native.Mathlib.Omega.{arith}
-use borrow.Author.Rules.{rules}
 use Rattle.stack.proofs.check.Goals as goal
 
 pub check_components-requires : goal.check_components-requires

@@ -3,7 +3,6 @@ use Rattle.terms.specs.Component.{stack_of}
 use Rattle.terms.proofs.Tabulate.{tabulate-length}
 use Rattle.terms.proofs.Answers.{most_256}
 use native.Mathlib.Omega.{arith}
-use borrow.Author.Rules.{rules}
 use Rattle.stack.proofs.check_components.Goals as goal
 
 pub returns-then-n-eq0 : goal.returns-then-n-eq0
@@ -19,22 +18,65 @@ file_stands-requires c = omega (arith, c.most.ensures, most_256 c.args.kind)
 
 pub returns-then-not-file_stands : goal.returns-then-not-file_stands
 unfolding stack_of
-returns-then-not-file_stands c = rw (tabulate-length, ne_eqb _ _ c.if-n-eq0.false, ← c.most.ensures, le-ltb _ _ c.if-most-n.false, ← c.file_stands.ensures, c.if-not-file_stands.true)
+returns-then-not-file_stands c =
+    rw (
+      tabulate-length,
+      ne_eqb _ _ c.if-n-eq0.false,
+      ← c.most.ensures,
+      le-ltb _ _ c.if-most-n.false,
+      ← c.file_stands.ensures,
+      c.if-not-file_stands.true,
+    )
 
 pub file_stands-requires-2 : goal.file_stands-requires-2
 file_stands-requires-2 c = omega (arith, c.most.ensures, most_256 c.args.kind)
 
 pub returns-then-not-file_stands-2 : goal.returns-then-not-file_stands-2
 unfolding stack_of
-returns-then-not-file_stands-2 c = rw (tabulate-length, ne_eqb _ _ c.if-n-eq0.false, ← c.most.ensures, le-ltb _ _ c.if-most-n.false, ← c.file_stands.ensures, c.if-not-file_stands.false, ← c.file_stands-2.ensures, c.if-not-file_stands-2.true)
+returns-then-not-file_stands-2 c =
+    rw (
+      tabulate-length,
+      ne_eqb _ _ c.if-n-eq0.false,
+      ← c.most.ensures,
+      le-ltb _ _ c.if-most-n.false,
+      ← c.file_stands.ensures,
+      c.if-not-file_stands.false,
+      ← c.file_stands-2.ensures,
+      c.if-not-file_stands-2.true,
+    )
 
 pub file_stands-requires-3 : goal.file_stands-requires-3
 file_stands-requires-3 c = omega (arith, c.most.ensures, most_256 c.args.kind)
 
 pub returns-then-not-file_stands-3 : goal.returns-then-not-file_stands-3
 unfolding stack_of
-returns-then-not-file_stands-3 c = rw (tabulate-length, ne_eqb _ _ c.if-n-eq0.false, ← c.most.ensures, le-ltb _ _ c.if-most-n.false, ← c.file_stands.ensures, c.if-not-file_stands.false, ← c.file_stands-2.ensures, c.if-not-file_stands-2.false, ← c.file_stands-3.ensures, c.if-not-file_stands-3.true)
+returns-then-not-file_stands-3 c =
+    rw (
+      tabulate-length,
+      ne_eqb _ _ c.if-n-eq0.false,
+      ← c.most.ensures,
+      le-ltb _ _ c.if-most-n.false,
+      ← c.file_stands.ensures,
+      c.if-not-file_stands.false,
+      ← c.file_stands-2.ensures,
+      c.if-not-file_stands-2.false,
+      ← c.file_stands-3.ensures,
+      c.if-not-file_stands-3.true,
+    )
 
 pub returns : goal.returns
 unfolding stack_of
-returns c = rw (tabulate-length, ne_eqb _ _ c.if-n-eq0.false, ← c.most.ensures, le-ltb _ _ c.if-most-n.false, ← c.file_stands.ensures, c.if-not-file_stands.false, ← c.file_stands-2.ensures, c.if-not-file_stands-2.false, ← c.file_stands-3.ensures, c.if-not-file_stands-3.false, tabulate-length)
+returns c =
+    rw (
+      tabulate-length,
+      ne_eqb _ _ c.if-n-eq0.false,
+      ← c.most.ensures,
+      le-ltb _ _ c.if-most-n.false,
+      ← c.file_stands.ensures,
+      c.if-not-file_stands.false,
+      ← c.file_stands-2.ensures,
+      c.if-not-file_stands-2.false,
+      ← c.file_stands-3.ensures,
+      c.if-not-file_stands-3.false,
+      tabulate-length,
+    )

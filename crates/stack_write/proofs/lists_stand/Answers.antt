@@ -1,27 +1,25 @@
-use Prim.Native.Nat.{◌-◌, ◌≤◌}
-use lib.ListN.{drop}
-use borrow.Author.Tests.{not-true, not-false}
-use Rattle.terms.specs.Component.{every, rule_of}
-use Rattle.stack_write.specs.Call.{entries_of}
 use Rattle.terms.proofs.Every.{every_kept, every_broken, every_done}
 use Rattle.terms.proofs.Moves.{moves}
 use native.Mathlib.Omega.{arith}
-use mathlib.Core.Path.{◌≡◌, sym, ◌∙◌}
-use borrow.Author.Rules.{rules}
+use mathlib.Core.Path.{sym, ◌∙◌}
 use Rattle.stack_write.proofs.lists_stand.Goals as goal
 
 pub loop-p-init : goal.loop-p-init
 loop-p-init c = let e = c.first-p.ensures in (omega arith, rw e)
 
 pub returns-then-not-stands : goal.returns-then-not-stands
-returns-then-not-stands c = every_broken _ _ _ _ c.loop-p-test.true (rw (← c.entry-c.ensures) (sym c.stands.ensures ∙ c.if-not-stands.true)) c.loop-p.invariant.1
+returns-then-not-stands c =
+    let b = sym c.stands.ensures ∙ c.if-not-stands.true in
+    every_broken _ _ _ _ c.loop-p-test.true (rw (← c.entry-c.ensures) b) c.loop-p.invariant.1
 
 pub loop-p-smaller : goal.loop-p-smaller
 loop-p-smaller c = omega (arith, c.next-p.ensures ∙ moves c.loop-p.p.before (omega arith))
 
 pub loop-p-preserved : goal.loop-p-preserved
-loop-p-preserved c = let m = c.next-p.ensures ∙ moves c.loop-p.p.before (omega arith) in
-    (omega arith, rw m (every_kept _ _ _ _ c.loop-p-test.true (rw (← c.entry-c.ensures) (sym c.stands.ensures ∙ c.if-not-stands.false)) c.loop-p.invariant.1))
+loop-p-preserved c =
+    let m = c.next-p.ensures ∙ moves c.loop-p.p.before (omega arith) in
+    let b = sym c.stands.ensures ∙ c.if-not-stands.false in
+    (omega arith, rw m (every_kept _ _ _ _ c.loop-p-test.true (rw (← c.entry-c.ensures) b) c.loop-p.invariant.1))
 
 pub returns : goal.returns
 returns c = every_done _ _ _ _ c.loop-p-test.false c.loop-p.invariant.1

@@ -3,7 +3,6 @@ use mathlib.Core.List.{[], ◌∷◌}
 use lib.ListN.{length-set}
 use lib.Seq.{sets-eq}
 use native.Mathlib.Omega.{arith}
-use borrow.Author.Rules.{rules}
 use Rattle.stack_write.proofs.put_component.Goals as goal
 
 pub bounds-out-1 : goal.bounds-out-1
@@ -29,4 +28,14 @@ bounds-out-7 c = simp length-set (omega arith)
 
 pub returns : goal.returns
 unfolding bytes_of
-returns c = simp (c.low_byte.ensures, c.high_byte.ensures, c.low_byte-2.ensures, c.high_byte-2.ensures, c.low_byte-3.ensures, c.high_byte-3.ensures, c.low_byte-4.ensures, c.high_byte-4.ensures) (sets-eq (_ ∷ _ ∷ _ ∷ _ ∷ _ ∷ _ ∷ _ ∷ _ ∷ []) c.args.out.now 0 c.requires)
+returns c =
+    simp (
+      c.low_byte.ensures,
+      c.high_byte.ensures,
+      c.low_byte-2.ensures,
+      c.high_byte-2.ensures,
+      c.low_byte-3.ensures,
+      c.high_byte-3.ensures,
+      c.low_byte-4.ensures,
+      c.high_byte-4.ensures,
+    ) (sets-eq (_ ∷ _ ∷ _ ∷ _ ∷ _ ∷ _ ∷ _ ∷ _ ∷ []) c.args.out.now 0 c.requires)

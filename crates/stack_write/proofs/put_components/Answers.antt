@@ -17,11 +17,12 @@ loop-p-smaller c = omega (arith, c.next-p.ensures ∙ moves c.loop-p.p.before (o
 
 pub loop-p-preserved : goal.loop-p-preserved
 loop-p-preserved c =
-    let m = c.next-p.ensures ∙ moves c.loop-p.p.before (omega arith) in
-    (omega arith,
-    rw m
-    (written_more _ _ c.loop-p.p.before _ c.loop-p.out _ (omega arith) c.loop-p.invariant.1 c.entry-c.ensures
-    c.put_component.ensures))
+    let m = c.next-p.ensures ∙ moves c.loop-p.p.before (omega arith) in (
+      omega arith,
+      rw m
+          (written_more _ _ c.loop-p.p.before _ c.loop-p.out _ (omega arith) c.loop-p.invariant.1 c.entry-c.ensures
+          c.put_component.ensures),
+    )
 
 pub returns : goal.returns
 returns c = let e : c.loop-p.p.before ≡ length c.args.heights.now = omega arith in rw e at c.loop-p.invariant.1
