@@ -1,5 +1,6 @@
 // The smallest area.
 #![tactic(auto)]
+
 ghost use Rattle.std.specs.Prelude.{◌≡◌, ◌*◌, ◌≤◌, ◌<◌};
 ghost use Rattle.terms.specs.Numbers.{most_limit};
 ghost use Rattle.terms.specs.Seams.{components_in};

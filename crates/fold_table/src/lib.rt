@@ -1,5 +1,6 @@
 // The outline table.
 #![tactic(auto)]
+
 ghost use Rattle.std.specs.Prelude.{◌≡◌, ◌++◌, ◌+◌, ◌≤◌, length, take, drop};
 ghost use Rattle.terms.specs.Numbers.{most_limit};
 ghost use Rattle.terms.specs.Answer.{count_answer};

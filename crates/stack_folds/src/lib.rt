@@ -1,5 +1,6 @@
 // The calls for C and Rust: numbers and slices only. The crate stack_folds_c exports them.
 #![tactic(auto)]
+
 ghost use Rattle.std.specs.Prelude.{◌≡◌, take, drop};
 ghost use Rattle.terms.specs.Answer.{count_answer};
 ghost use Rattle.terms.specs.Component.{count_of};
@@ -209,12 +210,7 @@ pub fn folds_smallest_area(
     measured(fold_area::smallest_area(file, kind, placements, work))
 }
 
-pub fn folds_table(
-    file: &[u8],
-    nested: bool,
-    pairs: &mut [u32],
-    work: &mut [u32],
-) -> Count
+pub fn folds_table(file: &[u8], nested: bool, pairs: &mut [u32], work: &mut [u32]) -> Count
     ensures table_of { TableOf (kind_of nested) file.now
         pairs.old work.old (count_of_code result) pairs.new work.new }
     ensures plain_count { PlainCount result }

@@ -1,5 +1,6 @@
 // The calls for C: each export answers as the call of stack_folds by the same name. interface/stack_folds.h declares them.
 #![tactic(auto)]
+
 ghost use Rattle.std.specs.Prelude.{◌≡◌, take, drop};
 ghost use Rattle.terms.specs.Component.{count_of};
 ghost use Rattle.terms.specs.declared.Kind.TheVariants.{Apart};

@@ -1,7 +1,4 @@
-use Rattle.best.proofs.Summing.{Summed, sum_start, product_most, sum_more, sum_all}
-use Prim.Native.Nat.{◌-◌}
-use lib.ListN.{length}
-use borrow.Author.Rules.{rules}
+use Rattle.best.proofs.Summing.{sum_start, product_most, sum_more, sum_all}
 use native.Mathlib.Omega.{arith}
 use Rattle.best.proofs.cells_of.Goals as goal
 

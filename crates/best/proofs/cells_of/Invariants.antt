@@ -1,8 +1,6 @@
-use Rattle.best.proofs.Summing.{Summed, sum_start, product_most, sum_more, sum_all}
+use Rattle.best.proofs.Summing.{Summed}
 use Prim.Native.Nat.{◌-◌}
 use lib.ListN.{length}
-use borrow.Author.Rules.{rules}
-use native.Mathlib.Omega.{arith}
 use Rattle.best.proofs.cells_of.Given as goal
 
 abbrev pub invariant-loop-k : goal.invariant-loop-k

@@ -1,6 +1,5 @@
 use Rattle.best.proofs.Summing.{sizes_ask, cells_ask, unfolded}
 use native.Mathlib.Omega.{arith}
-use borrow.Author.Rules.{rules}
 use Rattle.best.proofs.flat_of.Goals as goal
 
 pub sizes_of-sizes-requires : goal.sizes_of-sizes-requires

@@ -8,7 +8,6 @@ use lib.Seq.{length-take-le}
 use Rattle.fold.proofs.Answering.{first_refused, search_asks, first_height_lem}
 use mathlib.Core.Path.{sym, ◌∙◌}
 use native.Mathlib.Omega.{arith}
-use borrow.Author.Rules.{rules}
 use Rattle.fold.proofs.first_to_height.Goals as goal
 
 pub slice_bounds-write_low-end : goal.slice_bounds-write_low-end

@@ -7,7 +7,6 @@ use Rattle.terms.specs.Seams.{components_in}
 use Rattle.fold.specs.Calls.{by_width}
 use Rattle.folding.specs.Calls.{measured_answer}
 use mathlib.Core.Path.{sym, ◌∙◌}
-use borrow.Author.Rules.{rules}
 use Rattle.fold.proofs.first_to_width.Goals as goal
 
 pub slice_bounds-write_slim-end : goal.slice_bounds-write_slim-end

@@ -1,9 +1,4 @@
-use Prim.Native.Nat.{◌+◌, ◌-◌, ◌≤◌}
-use lib.ListN.{length}
-use mathlib.Core.Path.{◌≡◌, refl, ◌∙◌}
-use Rattle.terms.specs.Seams.{components_in}
-use Rattle.fold.specs.Inner.{Between}
-use Rattle.plan.specs.Memory.{Known}
+use mathlib.Core.Path.{refl, ◌∙◌}
 use Rattle.plan.proofs.Planning.{asks_again}
 use Rattle.fold.proofs.Held.{stacked}
 use Rattle.fold.proofs.Limits.{falls, lower, exact, raise, found}

@@ -1,13 +1,9 @@
 use Prim.Native.Nat.{◌+◌, ◌-◌, ◌≤◌}
 use lib.ListN.{length}
-use mathlib.Core.Path.{◌≡◌, refl, ◌∙◌}
+use mathlib.Core.Path.{◌≡◌}
 use Rattle.terms.specs.Seams.{components_in}
 use Rattle.fold.specs.Inner.{Between}
 use Rattle.plan.specs.Memory.{Known}
-use Rattle.plan.proofs.Planning.{asks_again}
-use Rattle.fold.proofs.Held.{stacked}
-use Rattle.fold.proofs.Limits.{falls, lower, exact, raise, found}
-use native.Mathlib.Omega.{arith}
 use Rattle.fold.proofs.least_height.Given as goal
 
 abbrev pub invariant-loop-lo : goal.invariant-loop-lo

@@ -6,7 +6,6 @@ use Rattle.fold.proofs.Held.{first_held}
 use Rattle.folding.specs.Calls.{measured_answer}
 use Rattle.fold.specs.Calls.{by_height}
 use mathlib.Core.Path.{refl}
-use borrow.Author.Rules.{rules}
 use Rattle.fold.proofs.to_height.Goals as goal
 
 pub first_to_height-requires : goal.first_to_height-requires

@@ -6,7 +6,6 @@ use Rattle.best.proofs.Planning.{plannable_again}
 use Rattle.folding.specs.Calls.{measured_answer}
 use Rattle.plan.proofs.Outlines.{plan_asks}
 use native.Mathlib.Omega.{arith}
-use borrow.Author.Rules.{rules}
 use Rattle.fold.proofs.write_slim.Goals as goal
 
 pub flat_of-flat-requires : goal.flat_of-flat-requires

@@ -7,7 +7,6 @@ use lib.Seq.{length-take-le}
 use lib.ListN.{take}
 use mathlib.Core.Path.{ap, sym, ◌∙◌}
 use native.Mathlib.Omega.{arith}
-use borrow.Author.Rules.{rules}
 use Rattle.fold_area.proofs.first_smallest.Goals as goal
 
 pub slice_bounds-write_smallest-end : goal.slice_bounds-write_smallest-end
@@ -20,10 +19,18 @@ pub slice_bounds-write_smallest-end-in-Count-2 : goal.slice_bounds-write_smalles
 slice_bounds-write_smallest-end-in-Count-2 c = sym (length-take-le _ _ c.requires.seams_long)
 
 pub write_smallest-requires : goal.write_smallest-requires
-write_smallest-requires c = let a = c.args in let q = search_asks a.kind a.n 1 a.h.now a.w.now a.g.now a.out.now a.work.now c.requires _ (sym c.check_room.ensures ∙ ap count_answer c.in-Count.is) in (q.0, omega arith, q.2)
+write_smallest-requires c =
+    let a = c.args in let q = search_asks a.kind a.n 1 a.h.now a.w.now a.g.now a.out.now a.work.now c.requires _
+    (sym c.check_room.ensures ∙ ap count_answer c.in-Count.is) in (q.0, omega arith, q.2)
 
 pub returns-in-Refused : goal.returns-in-Refused
-returns-in-Refused c = let a = c.args in first_refused (by_area a.kind) a.kind 1 a.out.now a.work.now a.n _ (components_in (take a.n a.h.now) (take a.n a.w.now) (take a.n a.g.now)) (sym c.check_room.ensures ∙ ap count_answer c.in-Refused.is)
+returns-in-Refused c =
+    let a = c.args in first_refused (by_area a.kind) a.kind 1 a.out.now a.work.now a.n _
+    (components_in (take a.n a.h.now) (take a.n a.w.now) (take a.n a.g.now))
+    (sym c.check_room.ensures ∙ ap count_answer c.in-Refused.is)
 
 pub returns-in-Count : goal.returns-in-Count
-returns-in-Count c = let a = c.args in first_searched a.kind a.n 1 a.h.now a.w.now a.g.now a.out.now a.work.now c.requires _ (sym c.check_room.ensures ∙ ap count_answer c.in-Count.is) (by_area a.kind) c.write_smallest.new.out _ (measured_answer c.write_smallest.result) c.write_smallest.ensures
+returns-in-Count c =
+    let a = c.args in first_searched a.kind a.n 1 a.h.now a.w.now a.g.now a.out.now a.work.now c.requires _
+    (sym c.check_room.ensures ∙ ap count_answer c.in-Count.is) (by_area a.kind) c.write_smallest.new.out _
+    (measured_answer c.write_smallest.result) c.write_smallest.ensures

@@ -1,4 +1,4 @@
-use Rattle.group_search.proofs.Turns.{clear_start, clear_row_asks, clear_next, clear_ends}
+use Rattle.group_search.proofs.Turns.{clear_next}
 use native.Mathlib.Omega.{arith}
 use Rattle.group_search.proofs.clear.Goals as goal
 

@@ -1,4 +1,4 @@
-use Rattle.group_search.proofs.Halves.{cap_low, low_asks, asks_at, not_met, high_low, halves_start, met, missed, halved}
+use Rattle.group_search.proofs.Halves.{asks_at, not_met, high_low, halves_start, met, missed, halved}
 use native.Mathlib.Omega.{arith}
 use Rattle.group_search.proofs.narrowest.Goals as goal
 

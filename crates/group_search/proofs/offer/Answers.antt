@@ -1,4 +1,4 @@
-use Rattle.group_search.proofs.Walks.{top_low, side_low, offer_top, offer_side, offer_entry}
+use Rattle.group_search.proofs.Walks.{top_low, side_low, offer_entry}
 use native.Mathlib.Omega.{arith}
 use Rattle.group_search.proofs.offer.Goals as goal
 

@@ -1,4 +1,4 @@
-use Rattle.group_search.proofs.Turns.{row_start, turn_asks, turn_done, row_ends}
+use Rattle.group_search.proofs.Turns.{turn_done, row_ends}
 use Rattle.group_search.proofs.over_row.Goals as goal
 
 pub loop-q-preserved : goal.loop-q-preserved

@@ -1,4 +1,4 @@
-use Rattle.group_search.proofs.Turns.{rows_start, row_asks, row_done, rows_end}
+use Rattle.group_search.proofs.Turns.{row_done, rows_end}
 use Rattle.group_search.proofs.over_rows.Goals as goal
 
 pub loop-p-preserved : goal.loop-p-preserved

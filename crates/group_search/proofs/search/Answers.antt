@@ -1,4 +1,4 @@
-use Rattle.group_search.proofs.Searching.{clear_asks, move_asks, searched}
+use Rattle.group_search.proofs.Searching.{searched}
 use Rattle.group_search.proofs.search.Goals as goal
 
 pub returns-clause-searched : goal.returns-clause-searched

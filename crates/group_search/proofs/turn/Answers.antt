@@ -1,4 +1,4 @@
-use Rattle.group_search.proofs.Walks.{row_small, side_small, top_small, left_out, walk_asks, settle_asks, taken}
+use Rattle.group_search.proofs.Walks.{row_small, side_small, top_small, left_out, taken}
 use native.Mathlib.Omega.{arith}
 use Rattle.group_search.proofs.turn.Goals as goal
 

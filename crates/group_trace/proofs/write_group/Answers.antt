@@ -1,5 +1,4 @@
-use native.Mathlib.Omega.{arith}
-use Rattle.group_trace.proofs.Writing.{start, asks, left_more, right_more, ended, left_room, right_room}
+use Rattle.group_trace.proofs.Writing.{start, left_more, right_more, ended, right_room}
 use Rattle.group_trace.proofs.write_group.Goals as goal
 
 pub loop-right-init : goal.loop-right-init

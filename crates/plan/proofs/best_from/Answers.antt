@@ -1,6 +1,5 @@
 use Rattle.plan.proofs.Remembering.{row_part, row_back}
 use Rattle.plan.proofs.Planning.{first_asks, first_is}
-use borrow.Author.Rules.{rules}
 use Rattle.plan.proofs.best_from.Goals as goal
 
 pub likely_first-requires-clause-first_asks : goal.likely_first-requires-clause-first_asks

@@ -9,7 +9,6 @@ use Rattle.plan.proofs.Remembering.{row_start, bound_word, bound_row}
 use Rattle.plan.proofs.Scanning.{bound_asks, bound_low, bound_under}
 use Rattle.terms.specs.declared.Kind.TheVariants.{Nested}
 use native.Mathlib.Omega.{arith}
-use borrow.Author.Rules.{rules}
 use Rattle.plan.proofs.bound_by.Goals as goal
 
 pub returns-then-k-eq0-clause-under : goal.returns-then-k-eq0-clause-under

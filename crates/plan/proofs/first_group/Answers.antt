@@ -1,11 +1,6 @@
-use borrow.Author.Rules.{rules}
-use Prim.Native.Nat.{◌-◌}
-use mathlib.Core.Path.{◌≡◌, refl}
-use lib.ListN.{length}
+use mathlib.Core.Path.{refl}
 use Rattle.terms.proofs.Answers.{most_256}
-use Rattle.terms.specs.Seams.{components_in}
-use Rattle.plan.specs.Memory.{RowDone}
-use Rattle.plan.proofs.Scanning.{Scanned, scan_start, scan_stop, next_asks, scan_more, scan_done}
+use Rattle.plan.proofs.Scanning.{scan_start, scan_stop, next_asks, scan_more, scan_done}
 use Rattle.plan.proofs.Remembering.{row_start, row_word, row_more}
 use native.Mathlib.Omega.{arith}
 use Rattle.plan.proofs.first_group.Goals as goal

@@ -1,13 +1,9 @@
-use borrow.Author.Rules.{rules}
 use Prim.Native.Nat.{◌-◌}
-use mathlib.Core.Path.{◌≡◌, refl}
+use mathlib.Core.Path.{◌≡◌}
 use lib.ListN.{length}
-use Rattle.terms.proofs.Answers.{most_256}
 use Rattle.terms.specs.Seams.{components_in}
 use Rattle.plan.specs.Memory.{RowDone}
-use Rattle.plan.proofs.Scanning.{Scanned, scan_start, scan_stop, next_asks, scan_more, scan_done}
-use Rattle.plan.proofs.Remembering.{row_start, row_word, row_more}
-use native.Mathlib.Omega.{arith}
+use Rattle.plan.proofs.Scanning.{Scanned}
 use Rattle.plan.proofs.first_group.Given as goal
 
 abbrev pub invariant-loop-k : goal.invariant-loop-k

@@ -1,8 +1,5 @@
-use mathlib.Core.Path.{◌≡◌}
-use Rattle.plan.proofs.Remembering.{forget_none, forget_more}
 use Prim.Native.Nat.{◌-◌, ◌≤◌}
 use Rattle.plan.specs.Memory.{Forgotten}
-use native.Mathlib.Omega.{arith}
 use Rattle.plan.proofs.forget.Given as goal
 
 abbrev pub invariant-loop-k : goal.invariant-loop-k

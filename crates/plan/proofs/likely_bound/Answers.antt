@@ -1,5 +1,4 @@
 use native.Mathlib.Omega.{arith}
-use borrow.Author.Rules.{rules}
 use Rattle.plan.proofs.likely_bound.Goals as goal
 
 pub bound_by-requires-clause-first_asks : goal.bound_by-requires-clause-first_asks

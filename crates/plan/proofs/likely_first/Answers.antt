@@ -1,5 +1,4 @@
 use Rattle.plan.proofs.Remembering.{row_ready, row_again}
-use borrow.Author.Rules.{rules}
 use Rattle.plan.proofs.likely_first.Goals as goal
 
 pub first_group-requires-clause-row_asks : goal.first_group-requires-clause-row_asks

@@ -5,7 +5,6 @@ use mathlib.Core.Path.{refl}
 use lib.ListN.{length}
 use Prim.Native.Nat.{◌-◌}
 use native.Mathlib.Omega.{arith}
-use borrow.Author.Rules.{rules}
 use Rattle.plan.proofs.plan_at.Goals as goal
 
 pub ready_row-requires : goal.ready_row-requires

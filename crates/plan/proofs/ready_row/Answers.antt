@@ -1,6 +1,5 @@
 use Rattle.plan.proofs.Remembering.{readied_same}
 use native.Mathlib.Omega.{arith}
-use borrow.Author.Rules.{rules}
 use Rattle.plan.proofs.ready_row.Goals as goal
 
 pub returns-then-limit-known : goal.returns-then-limit-known

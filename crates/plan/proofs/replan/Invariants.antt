@@ -1,12 +1,8 @@
 use Prim.Native.Nat.{◌+◌, ◌-◌, ◌≤◌}
-use mathlib.Core.Path.{◌≡◌, refl, ◌∙◌}
-use lib.ListN.{length, length-set}
-use Rattle.terms.proofs.Answers.{most_256}
+use mathlib.Core.Path.{◌≡◌}
+use lib.ListN.{length}
 use Rattle.plan.specs.Asks.{PlanAsks}
 use Rattle.plan.specs.Memory.{row_for, EntryDone}
-use Rattle.plan.proofs.Planning.{asks_again, rows_start, entry_asks, plan_done, all_rows}
-use Rattle.plan.proofs.Remembering.{row_low, row_at, row_on}
-use native.Mathlib.Omega.{arith}
 use Rattle.plan.proofs.replan.Given as goal
 
 abbrev pub invariant-loop-i : goal.invariant-loop-i

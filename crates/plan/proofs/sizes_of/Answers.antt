@@ -1,7 +1,5 @@
-use borrow.Author.Rules.{rules}
 use mathlib.Core.Path.{refl}
-use Prim.Native.Nat.{◌-◌, ◌≤◌}
-use Rattle.plan.proofs.Sizing.{SizesTo, sizes_start, sizes_more, sizes_all}
+use Rattle.plan.proofs.Sizing.{sizes_start, sizes_more, sizes_all}
 use native.Mathlib.Omega.{arith}
 use Rattle.plan.proofs.sizes_of.Goals as goal
 

@@ -4,7 +4,6 @@ use Rattle.plan.proofs.Trying.{first_tried}
 use Rattle.plan.specs.Asks.{layout_in}
 use Rattle.terms.specs.Seams.{components_in}
 use lib.ListN.{take}
-use borrow.Author.Rules.{rules}
 use Rattle.plan.proofs.try_first.Goals as goal
 
 pub slice_bounds-try_group-end : goal.slice_bounds-try_group-end

@@ -1,6 +1,5 @@
 use Rattle.plan.proofs.Trying.{wide_4000, flat_high, flat_tried}
 use native.Mathlib.Omega.{arith}
-use borrow.Author.Rules.{rules}
 use Rattle.plan.proofs.try_flat.Goals as goal
 
 pub gap-requires : goal.gap-requires

@@ -1,7 +1,6 @@
 use Rattle.plan.proofs.Remembering.{word_kept}
 use Rattle.plan.proofs.Trying.{wide_4000, wide_some, best_low, narrow_asks, narrow_word, folds_wide, folds_none, folds_tried}
 use native.Mathlib.Omega.{arith}
-use borrow.Author.Rules.{rules}
 use Rattle.plan.proofs.try_folds.Goals as goal
 
 pub too_wide-bound-requires : goal.too_wide-bound-requires

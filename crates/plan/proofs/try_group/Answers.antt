@@ -2,7 +2,6 @@ use Rattle.plan.proofs.Remembering.{word_left}
 use Rattle.plan.proofs.Trying.{barred_tried, free_end}
 use mathlib.Core.Path.{sym, ◌∙◌}
 use native.Mathlib.Omega.{arith}
-use borrow.Author.Rules.{rules}
 use Rattle.plan.proofs.try_group.Goals as goal
 
 pub barred-requires : goal.barred-requires

@@ -1,5 +1,4 @@
 use Rattle.trace.proofs.Grouping.{apart_found, fill_asks, point_asks, nested_found}
-use borrow.Author.Rules.{rules}
 use Rattle.trace.proofs.fold_at.Goals as goal
 
 pub fill-requires : goal.fill-requires

@@ -2,7 +2,6 @@ use lib.Seq.{length-take-le}
 use Rattle.trace.proofs.Grouping.{first_group}
 use native.Mathlib.Omega.{arith}
 use mathlib.Core.Path.{sym}
-use borrow.Author.Rules.{rules}
 use Rattle.trace.proofs.put_first.Goals as goal
 
 pub slice_bounds-put_group-end : goal.slice_bounds-put_group-end

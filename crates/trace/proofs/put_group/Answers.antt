@@ -1,5 +1,4 @@
 use Rattle.trace.proofs.Grouping.{write_asks}
-use borrow.Author.Rules.{rules}
 use Rattle.trace.proofs.put_group.Goals as goal
 
 pub write_group-requires : goal.write_group-requires
