@@ -1,4 +1,4 @@
-/* Foldings of a bit-sliced stack: the calls of target/staticlib/libstack_folds.a (build: rt staticlib stack_folds).
+/* Foldings of a bit-sliced stack: the calls of target/staticlib/libstack_folds.a, which interface/library.sh builds.
  *
  * The words, after Paik and Sahni, "Optimal Folding Of Bit Sliced Stacks":
  *   stack             components one above the other, C1 at the top to Cn at the bottom; their order never changes

@@ -1,4 +1,4 @@
-//! Links libstack_folds.a, from the folder STACK_FOLDS_LIB or else from where `rt staticlib stack_folds` writes it.
+//! Links libstack_folds.a, from the folder STACK_FOLDS_LIB or else from where interface/library.sh writes it.
 use std::{env, path::PathBuf};
 
 fn main() {
