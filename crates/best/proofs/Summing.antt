@@ -2,17 +2,21 @@
 use Prim.Native.Nat.{ℕ, zero, suc, ◌+◌, ◌-◌, ◌*◌, ◌≤◌, ◌<◌, max}
 use mathlib.Core.Path.{◌≡◌, refl, sym, ◌∙◌}
 use mathlib.Core.List.{List, [], ◌∷◌}
+use mathlib.Core.Bool.{Bool, true, false}
 use native.Mathlib.Nat.{mul-le-mul}
 use native.Mathlib.Numerals.{add-one}
 use native.Mathlib.Omega.{arith}
-use lib.ListN.{length, get_or, take}
+use lib.ListN.{length, get_or, get_or-map, take}
 use lib.Seq.{take_all}
 use Rattle.terms.specs.declared.Component.{Component}
 use Rattle.terms.specs.declared.Kind.{Kind}
 use Rattle.terms.specs.declared.Kind.TheVariants.{Apart}
+use Rattle.terms.specs.declared.Piece.{Piece}
 use Rattle.terms.specs.Component.{cell_sum, tallest}
-use Rattle.terms.specs.Seams.{gap_at, component_in, components_in}
+use Rattle.terms.specs.Pieces.{mark_of, heights_in, widths_in, seams_in, columns, sizes, stack_in}
+use Rattle.terms.specs.Seams.{gap_at, component_in}
 use Rattle.terms.proofs.Answers.{most_256}
+use Rattle.terms.proofs.Pieces.{heights_length, widths_length}
 use Rattle.group.proofs.Gaps.{gap_behind_all}
 use Rattle.layout.specs.Plan.{StackLists}
 use Rattle.layout.proofs.Columns.{components_length}
@@ -20,7 +24,7 @@ use Rattle.plan.proofs.Columns.{component_at_lem}
 use Rattle.plan.specs.declared.Sizes.{Sizes}
 use Rattle.plan.specs.Asks.{SizesAsk, SizesOf}
 use Rattle.best.specs.declared.Cells.{Cells}
-use Rattle.best.specs.Asks.{CellsAsk, CellsOf, Unfolded}
+use Rattle.best.specs.Asks.{CellsOf, Unfolded}
 
 -- No call takes more components than an apart one.
 pub any_kind : {kind : Kind} {hs ws gs : List ℕ} → StackLists kind hs ws gs → StackLists Apart hs ws gs
@@ -35,12 +39,15 @@ any_kind {kind} s = record {
   near = s.near;
 }
 
--- The product of two numbers of 32 bits has 64.
-pub product_fits : (a b : ℕ) → a < 4294967296 → b < 4294967296 → a * b < 18446744073709551616
-product_fits a b h k =
-    let u : a ≤ 4294967295 = omega arith in
-    let v : b ≤ 4294967295 = omega arith in
-    omega (arith, mul-le-mul u v)
+abbrev none : Piece
+none = record { height = 0; width = 0; gap = 0; barred = false }
+
+abbrev nil : Component
+nil = component_in [] [] [] 0
+
+mark_low : (b : Bool) → mark_of b ≤ 1
+mark_low true = omega arith
+mark_low false = omega arith
 
 -- What one more component adds.
 cells_more : (cs : List Component) (k : ℕ) (d : Component) → k < length cs → cell_sum (take (suc k) cs) ≡ cell_sum (take k cs) + (get_or cs k d).width.0 * (get_or cs k d).height.0
@@ -56,78 +63,89 @@ tallest_more (x ∷ cs) zero d h = omega arith
 tallest_more (x ∷ cs) (suc k) d h = omega (arith, tallest_more cs k d (omega arith))
 
 -- The cells of the first k components, and the tallest of them.
-pub record Summed (hs ws : List ℕ) (count high k : ℕ) : Type 0 where
-  pub within : k ≤ length hs
-  pub count_is : (gs : List ℕ) → count ≡ cell_sum (take k (components_in hs ws gs))
-  pub tallest_is : (gs : List ℕ) → high ≡ tallest (take k (components_in hs ws gs))
+pub record Summed (s : List Piece) (count high k : ℕ) : Type 0 where
+  pub count_is : count ≡ cell_sum (take k (stack_in s))
+  pub tallest_is : high ≡ tallest (take k (stack_in s))
   pub most : count ≤ 16000000 * k
 
-pub sum_start : (hs ws : List ℕ) → Summed hs ws 0 0 0
+pub sum_start : (s : List Piece) → Summed s 0 0 0
 unfolding cell_sum tallest
-sum_start hs ws = record { within = omega arith; count_is = λ gs. refl; tallest_is = λ gs. refl; most = omega arith }
-
-module _ {hs ws : List ℕ} (a : CellsAsk hs ws) {count high k : ℕ} (s : Summed hs ws count high k) where
-  module _ (l : k < length hs) (h w p : ℕ) (eh : h ≡ get_or hs k 0) (ew : w ≡ get_or ws k 0) (ep : p ≡ w * h) where
-    pub product_most : p ≤ 16000000
-    product_most =
-        let u : w ≤ 4000 = omega (arith, a.slim k) in
-        let v : h ≤ 4000 = omega (arith, a.low k) in
-        omega (arith, mul-le-mul u v)
-
-    more_cells : (gs : List ℕ) → count + p ≡ cell_sum (take (suc k) (components_in hs ws gs))
-    more_cells gs =
-        let cs = components_in hs ws gs in
-        let e : cell_sum (take (suc k) cs) ≡ cell_sum (take k cs) + get_or ws k 0 * get_or hs k 0 =
-        rw (component_at_lem hs ws gs k l) at (cells_more cs k (component_in [] [] [] 0) (omega (arith, components_length hs ws gs))) in
-        let q : p ≡ get_or ws k 0 * get_or hs k 0 = rw (sym eh, sym ew) ep in
-        omega (arith, s.count_is gs)
-
-    more_tall : (gs : List ℕ) → max high h ≡ tallest (take (suc k) (components_in hs ws gs))
-    more_tall gs =
-        let cs = components_in hs ws gs in
-        let e : tallest (take (suc k) cs) ≡ max (tallest (take k cs)) (get_or hs k 0) =
-        rw (component_at_lem hs ws gs k l) at (tallest_more cs k (component_in [] [] [] 0) (omega (arith, components_length hs ws gs))) in
-        omega (arith, s.tallest_is gs)
-
-    pub sum_more : (high' : ℕ) → high' ≡ max high h → Summed hs ws (count + p) high' (k + 1)
-    sum_more high' e =
-        rw (add-one k) (record {
-          within = omega arith;
-          count_is = more_cells;
-          tallest_is = λ gs. e ∙ more_tall gs;
-          most = omega (arith, s.most, product_most);
-        })
-
-  pub sum_all : length hs ≤ k → CellsOf hs ws (record { count = count; tallest = record { 0 = high } })
-  sum_all d =
-      let n : k ≡ length hs = omega (arith, s.within) in
-      let all : (gs : List ℕ) → take k (components_in hs ws gs) ≡ components_in hs ws gs = λ gs. take_all k (components_in hs ws gs) (omega (arith, components_length hs ws gs)) in
-      record {
-        count_is = λ gs. rw (all gs) at (s.count_is gs);
-        tallest_is = λ gs. rw (all gs) at (s.tallest_is gs);
-        most = omega (arith, s.most, a.few);
-      }
+sum_start s = record { count_is = refl; tallest_is = refl; most = omega arith }
 
 -- The whole stack.
-module _ {hs ws gs : List ℕ} (a : StackLists Apart hs ws gs) where
-  pub sizes_ask : SizesAsk hs ws (length hs)
-  sizes_ask = record { few = a.few; low = a.low; in_heights = omega arith; in_widths = omega (arith, a.same_widths) }
-
-  pub cells_ask : CellsAsk hs ws
-  cells_ask = record { few = a.few; same = a.same_widths; low = a.low; slim = a.slim }
-
+module _ (s : List Piece) (a : columns s (StackLists Apart)) where
   abbrev cs : List Component
-  cs = components_in hs ws gs
+  cs = stack_in s
 
-  pub unfolded : (some : 0 < length hs) (z : Sizes) → SizesOf hs ws (length hs) z → (d : Cells) → CellsOf hs ws d → (last : ℕ) → last ≡ gap_at gs (length hs - 1)
-      → Unfolded (components_in hs ws gs) (record { widest = record { 0 = z.widest.0 }; tallest = record { 0 = d.tallest.0 }; height = record { 0 = z.tall.0 + last }; cells = d.count })
-  unfolded some z s d t last e =
-      let all : take (length hs) cs ≡ cs = take_all (length hs) cs (omega (arith, components_length hs ws gs)) in
-      record {
-        widest_is = rw all at (s.widest_is gs);
-        tallest_is = t.tallest_is gs;
-        height_is = omega (arith, rw all at (s.tall_is gs), gap_behind_all hs ws gs some);
-        low = omega (arith, s.low, a.near (length hs - 1));
-        cells_is = t.count_is gs;
-        cells_most = t.most;
-      }
+  count_of : length cs ≡ length s
+  count_of = components_length (heights_in s) (widths_in s) (seams_in s) ∙ heights_length s
+
+  all_of : (k : ℕ) → k ≡ length s → take k cs ≡ cs
+  all_of k e = take_all k cs (omega (arith, count_of))
+
+  module _ {count high k : ℕ} (t : Summed s count high k) where
+    -- The next piece.
+    module _ (l : k < length s) (h w p : ℕ) (eh : h ≡ (get_or s k none).height) (ew : w ≡ (get_or s k none).width) (ep : p ≡ w * h) where
+      high_is : get_or (heights_in s) k 0 ≡ h
+      high_is = get_or-map (λ x. x.height) s k none ∙ sym eh
+
+      wide_is : get_or (widths_in s) k 0 ≡ w
+      wide_is = get_or-map (λ x. x.width) s k none ∙ sym ew
+
+      pub product_most : p ≤ 16000000
+      product_most =
+          let u : w ≤ 4000 = omega (arith, wide_is, a.slim k) in
+          let v : h ≤ 4000 = omega (arith, high_is, a.low k) in
+          omega (arith, mul-le-mul u v)
+
+      pub sum_more : (high' : ℕ) → high' ≡ max high h → Summed s (count + p) high' (k + 1)
+      sum_more high' m =
+          let here : k < length cs = omega (arith, count_of) in
+          let at = component_at_lem (heights_in s) (widths_in s) (seams_in s) k (omega (arith, heights_length s)) in
+          let e : cell_sum (take (suc k) cs) ≡ cell_sum (take k cs) + w * h = rw (at, high_is, wide_is) at (cells_more cs k nil here) in
+          let f : tallest (take (suc k) cs) ≡ max (tallest (take k cs)) h = rw (at, high_is) at (tallest_more cs k nil here) in
+          rw (add-one k) (record {
+            count_is = omega (arith, t.count_is);
+            tallest_is = omega (arith, t.tallest_is);
+            most = omega (arith, t.most, product_most);
+          })
+
+    pub sum_all : k ≡ length s → CellsOf cs (record { count = count; tallest = record { 0 = high } })
+    sum_all e = record {
+      count_is = rw (all_of k e) at t.count_is;
+      tallest_is = rw (all_of k e) at t.tallest_is;
+      most = omega (arith, t.most, a.few, heights_length s);
+    }
+
+  pub sizes_ask : sizes s SizesAsk (length s)
+  sizes_ask = record { few = a.few; low = a.low; in_heights = omega (arith, heights_length s); in_widths = omega (arith, widths_length s) }
+
+  -- The gap behind the last piece.
+  module _ (last : ℕ) (e : last ≡ (get_or s (length s - 1) none).gap) where
+    last_is : last ≡ gap_at (seams_in s) (length s - 1)
+    last_is =
+        let i : get_or (seams_in s) (length s - 1) 0 ≡ 2 * (get_or s (length s - 1) none).gap + mark_of (get_or s (length s - 1) none).barred =
+        get_or-map (λ x. 2 * x.gap + mark_of x.barred) s (length s - 1) none in
+        omega (arith, mark_low (get_or s (length s - 1) none).barred)
+
+    pub last_most : last ≤ 4000
+    last_most = omega (arith, last_is, a.near (length s - 1))
+
+    pub unfolded : 0 < length s → (z : Sizes) → sizes s SizesOf (length s) z → (d : Cells) → CellsOf cs d
+        → Unfolded cs (record { widest = z.widest; tallest = d.tallest; height = record { 0 = z.tall.0 + last }; cells = d.count })
+    unfolded some z m d t =
+        let all = all_of (length s) refl in
+        let behind : last ≡ gap_at (seams_in s) (length (heights_in s) - 1) = rw (heights_length s) last_is in
+        record {
+          widest_is = rw all at (m.widest_is (seams_in s));
+          tallest_is = t.tallest_is;
+          height_is = omega (
+            arith,
+            rw all at (m.tall_is (seams_in s)),
+            gap_behind_all (heights_in s) (widths_in s) (seams_in s) (omega (arith, heights_length s)),
+            behind,
+          );
+          low = omega (arith, m.low, last_most);
+          cells_is = t.count_is;
+          cells_most = t.most;
+        }

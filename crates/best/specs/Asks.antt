@@ -1,11 +1,10 @@
 -- What the functions of this crate ask and promise.
-use Rattle.std.specs.Prelude.{ℕ, ◌*◌, ◌≤◌, ◌<◌, ◌≡◌, List, length, get_or, drop}
+use Rattle.std.specs.Prelude.{ℕ, ◌*◌, ◌≤◌, ◌<◌, ◌≡◌, List, length, drop}
 use Rattle.terms.specs.Numbers.{most_size, most_apart, most_limit}
 use Rattle.terms.specs.declared.Component.{Component}
 use Rattle.terms.specs.declared.Kind.{Kind}
 use Rattle.terms.specs.Answer.{Answer, refusal, result}
 use Rattle.terms.specs.Component.{cell_sum, tallest}
-use Rattle.terms.specs.Seams.{components_in}
 use Rattle.folding.specs.declared.Outline.{Outline}
 use Rattle.folding.specs.Placement.{placements_of}
 use Rattle.group.specs.Group.{none, widest, flat_height}
@@ -16,11 +15,11 @@ use Rattle.plan.specs.Memory.{Known}
 use Rattle.best.specs.declared.Cells.{Cells}
 use Rattle.best.specs.declared.Flat.{Flat}
 
--- A stack in three lists, with room to plan it and for its placements.
+-- A stack with room to plan it and for its placements.
 abbrev pub Foldable : Kind → ℕ → List ℕ → List ℕ → List ℕ → List ℕ → List ℕ → Type 0
 Foldable kind limit hs ws gs out work = Plannable kind hs ws gs work × (limit ≤ most_limit) × (3 * length hs ≤ length out)
 
--- With three lists for its plan, which with the work buffer hold one for `known` if that is over the limit.
+-- With room for its plan, which with the work buffer holds one for `known` if that is over the limit.
 abbrev pub Replannable : Kind → ℕ → ℕ → List ℕ → List ℕ → List ℕ → List ℕ → List ℕ → List ℕ → List ℕ → Type 0
 Replannable kind known limit hs ws gs widths heights ends work =
     PlanAsks kind limit hs ws gs widths heights ends work × Known kind known limit hs ws gs widths heights ends work
@@ -33,20 +32,13 @@ Written kind cs limit out out' (result o) =
     × Folds kind 0 0 cs (placements_of out' (length cs)) (layout_of kind limit 0 cs).width (layout_of kind limit 0 cs).height
     × (drop (3 * length cs) out' ≡ drop (3 * length cs) out) × (length out' ≡ length out)
 
--- The heights and widths of a stack, whatever its seams.
-pub record CellsAsk (hs ws : List ℕ) : Type 0 where
-  pub few : length hs ≤ most_apart
-  pub same : length ws ≡ length hs
-  pub low : (i : ℕ) → get_or hs i 0 ≤ most_size
-  pub slim : (i : ℕ) → get_or ws i 0 ≤ most_size
-
 -- No stack has more cells in its components.
 abbrev pub most_cells : ℕ
 most_cells = most_apart * most_size * most_size
 
-pub record CellsOf (hs ws : List ℕ) (r : Cells) : Type 0 where
-  pub count_is : (gs : List ℕ) → r.count ≡ cell_sum (components_in hs ws gs)
-  pub tallest_is : (gs : List ℕ) → r.tallest.0 ≡ tallest (components_in hs ws gs)
+pub record CellsOf (cs : List Component) (r : Cells) : Type 0 where
+  pub count_is : r.count ≡ cell_sum cs
+  pub tallest_is : r.tallest.0 ≡ tallest cs
   pub most : r.count ≤ most_cells
 
 -- A stack without a fold.

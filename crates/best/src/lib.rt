@@ -3,25 +3,25 @@
 
 ghost use Rattle.std.specs.Prelude.{◌≡◌, ◌*◌, ◌<◌, length};
 ghost use Rattle.terms.specs.declared.Kind.TheVariants.{Apart};
-ghost use Rattle.terms.specs.Seams.{components_in};
-ghost use Rattle.folding.specs.Calls.{measured_answer};
-ghost use Rattle.layout.specs.Plan.{StackLists};
-ghost use Rattle.best.specs.Asks.{Foldable, Replannable, Written, CellsAsk, CellsOf, Unfolded};
+ghost use Rattle.terms.specs.Answer.{answer_of};
+ghost use Rattle.terms.specs.Pieces.{columns, stack_in};
+ghost use Rattle.layout.specs.Plan.{StackLists, lists};
+ghost use Rattle.best.specs.Asks.{Foldable, Replannable, Written, CellsOf, Unfolded};
 
-use folding::Measured;
+use folding::Outline;
 use group::NONE;
-use numbers::{gap, get, larger};
-use terms::{Kind, Refusal, Rows, Slices};
+use layout::Entry;
+use terms::{Kind, Piece, Refusal, Rows, Slices};
 
 // The cells of some components, each one's width times its height, and the height of the tallest component.
-#[derive(Clone, Copy)]
+#[derive(Clone, Copy, Debug, PartialEq, Eq)]
 struct Cells {
     count: u64,
     tallest: Rows,
 }
 
 // A stack without a fold: its widest and its tallest component, its height, and the cells of all its components.
-#[derive(Clone, Copy)]
+#[derive(Clone, Copy, Debug, PartialEq, Eq)]
 pub struct Flat {
     pub widest: Slices,
     pub tallest: Rows,
@@ -29,31 +29,23 @@ pub struct Flat {
     pub cells: u64,
 }
 
-pub fn long(x: u32) -> u64
-    ensures { (result ≡ x) × (result < 4294967296) }
-{
-    x as u64
-}
-
 pub fn product(a: u32, b: u32) -> u64
     ensures { result ≡ a * b }
 {
-    long(a) * long(b)
+    u64::from(a) * u64::from(b)
 }
 
-fn cells_of(h: &[u16], w: &[u16]) -> Cells
-    requires { CellsAsk h.now w.now }
-    ensures { CellsOf h.now w.now result }
+fn cells_of(stack: &[Piece]) -> Cells
+    requires { columns stack.now (StackLists Apart) }
+    ensures { CellsOf (stack_in stack.now) result }
 {
-    let n = h.len();
     let mut count = 0;
     let mut tallest = 0;
-    let mut k = 0;
-    while k < n {
-        let high = get(h, k);
-        count += product(get(w, k), high);
-        tallest = larger(tallest, high);
-        k += 1;
+    for p in stack {
+        let high = u32::from(p.height);
+        let wide = u32::from(p.width);
+        count += product(wide, high);
+        tallest = tallest.max(high);
     }
     Cells {
         count,
@@ -61,46 +53,42 @@ fn cells_of(h: &[u16], w: &[u16]) -> Cells
     }
 }
 
-pub fn flat_of(h: &[u16], w: &[u16], g: &[u16]) -> Flat
-    requires { StackLists Apart h.now w.now g.now × (0 < length h.now) }
-    ensures { Unfolded (components_in h.now w.now g.now) result }
+pub fn flat_of(stack: &[Piece]) -> Flat
+    requires { columns stack.now (StackLists Apart) × (0 < length stack.now) }
+    ensures { Unfolded (stack_in stack.now) result }
 {
-    let n = h.len();
-    let sizes = plan::sizes_of(h, w, n);
-    let cells = cells_of(h, w);
+    let n = stack.len();
+    let last = stack[n - 1];
+    let sizes = plan::sizes_of(stack, n);
+    let cells = cells_of(stack);
     Flat {
-        widest: Slices(sizes.widest.0),
-        tallest: Rows(cells.tallest.0),
-        height: Rows(sizes.tall.0 + gap(g, n - 1)),
+        widest: sizes.widest,
+        tallest: cells.tallest,
+        height: Rows(sizes.tall.0 + u32::from(last.gap)),
         cells: cells.count,
     }
 }
 
-// Writes a folding with the outline of the best layout for a height, where the lists hold a plan for the limit `known`.
-// The content of the work buffer is free afterwards.
+// Writes a folding with the outline of the best layout for a height, where `plan` holds one for the limit `known`. The
+// content of the work buffer is free afterwards.
 pub fn write_best(
     kind: Kind,
     known: Rows,
     limit: Rows,
-    h: &[u16],
-    w: &[u16],
-    g: &[u16],
-    widths: &mut [u32],
-    heights: &mut [u32],
-    ends: &mut [u32],
+    stack: &[Piece],
+    plan: &mut [Entry],
     out: &mut [u32],
     work: &mut [u32],
-) -> Measured
-    requires foldable { Foldable kind limit.0 h.now w.now g.now out.old work.old }
-    requires replannable { Replannable kind known.0 limit.0
-        h.now w.now g.now widths.old heights.old ends.old work.old }
-    ensures { Written kind (components_in h.now w.now g.now) limit.0
-        out.old out.new (measured_answer result) }
+) -> Result<Outline, Refusal>
+    requires foldable { columns stack.now (Foldable kind limit.0) out.old work.old }
+    requires replannable { lists plan.old (columns stack.now (Replannable kind known.0 limit.0)) work.old }
+    ensures { Written kind (stack_in stack.now) limit.0
+        out.old out.new (answer_of result) }
 {
-    let o = plan::replan(kind, known, limit, h, w, g, widths, heights, ends, work);
+    let o = plan::replan(kind, known, limit, stack, plan, work);
     if NONE <= o.width.0 {
-        return Measured::Refused(Refusal::Unmeetable);
+        return Err(Refusal::Unmeetable);
     }
-    trace::trace(kind, 0, Rows(0), h, w, g, widths, ends, out, work);
-    Measured::Outlined(o)
+    trace::trace(kind, 0, Rows(0), stack, plan, out, work);
+    Ok(o)
 }

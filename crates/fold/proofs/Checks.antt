@@ -1,39 +1,17 @@
 -- The ways in which the checks of a fold call end.
-use Prim.Native.Nat.{ℕ, ◌/◌, ◌≤◌, ◌<◌}
-use mathlib.Core.Path.{◌≡◌, ◌∙◌}
+use Prim.Native.Nat.{ℕ, ◌/◌, ◌≤◌}
+use mathlib.Core.Path.{◌≡◌}
 use mathlib.Core.Bool.{Bool, true, false, not}
 use native.Mathlib.Omega.{arith}
 use lib.Dec.{leb, ltb}
-use borrow.Author.Tests.{le-leb, lt-leb, le-ltb, lt-ltb, leb-true, ltb-false, not-false}
+use borrow.Author.Tests.{le-leb, le-ltb, leb-true, ltb-false, not-false}
 use Rattle.terms.specs.Answer.{Answer, refusal, result, refuse_if}
 use Rattle.terms.proofs.Answers.{passed, result_same}
 use Rattle.terms.proofs.Bools.{both}
-use Rattle.fold.specs.Calls.{in_limit, room_checks, fold_checks}
+use Rattle.fold.specs.Calls.{in_limit, fold_checks}
 
-module _ {A : Type 0} (out work n : ℕ) (v : A) where
-  pub out_short : out / 3 < n → refusal 8 ≡ room_checks out work n v
-  out_short h = rw (lt-ltb (out / 3) n h)
-
-  pub work_short : n ≤ out / 3 → work < 8192 → refusal 8 ≡ room_checks out work n v
-  work_short o h = rw (le-ltb (out / 3) n o, lt-ltb work 8192 h)
-
-  pub room_enough : n ≤ out / 3 → 8192 ≤ work → result v ≡ room_checks out work n v
-  room_enough o h = rw (le-ltb (out / 3) n o, le-ltb work 8192 h)
-
-module _ {A : Type 0} (limit out work n : ℕ) (v : A) where
-  pub limit_0 : limit < 1 → refusal 7 ≡ fold_checks limit out work n v
-  limit_0 h = rw (lt-leb 1 limit h)
-
-  module _ (low : 1 ≤ limit) where
-    pub limit_over : 2000000 < limit → refusal 7 ≡ fold_checks limit out work n v
-    limit_over h = rw (le-leb 1 limit low, lt-leb limit 2000000 h)
-
-    module _ (high : limit ≤ 2000000) where
-      pub limit_kept : room_checks out work n v ≡ fold_checks limit out work n v
-      limit_kept = rw (le-leb 1 limit low, le-leb limit 2000000 high)
-
-      pub all_well : n ≤ out / 3 → 8192 ≤ work → result v ≡ fold_checks limit out work n v
-      all_well o h = room_enough out work n v o h ∙ limit_kept
+pub all_well : {A : Type 0} (limit out work n : ℕ) (v : A) → 1 ≤ limit → limit ≤ 2000000 → n ≤ out / 3 → 8192 ≤ work → result v ≡ fold_checks limit out work n v
+all_well limit out work n v low high o h = rw (le-leb 1 limit low, le-leb limit 2000000 high, le-ltb (out / 3) n o, le-ltb work 8192 h)
 
 -- What follows where they pass.
 pub record Lent (limit out work n : ℕ) : Type 0 where

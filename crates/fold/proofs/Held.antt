@@ -1,29 +1,27 @@
--- What a stack that was read into lists holds, for the layout.
+-- What a stack that was read holds, for the layout.
 use Prim.Native.Nat.{ℕ, zero, suc, ◌≤◌, ◌<◌}
-use mathlib.Core.Path.{◌≡◌, sym, ◌∙◌}
+use mathlib.Core.Path.{◌≡◌, ap, sym, ◌∙◌}
 use mathlib.Core.List.{List, [], ◌∷◌}
 use mathlib.Core.Bool.{true}
 use native.Mathlib.Omega.{arith}
 use lib.ListN.{length, get_or, take}
+use Rattle.std.proofs.lemmas.List.{length-map}
 use Rattle.terms.specs.declared.Component.{Component}
 use Rattle.terms.specs.declared.Kind.{Kind}
+use Rattle.terms.specs.declared.Piece.{Piece}
+use Rattle.terms.specs.Pieces.{piece_of, columns}
 use Rattle.terms.specs.Seams.{seam_of, gap_at, components_in}
-use Rattle.terms.proofs.Answers.{most_256}
-use Rattle.terms.proofs.Lists.{heights_of, widths_of, seams_of, length-map, all_sized, AllSized, all_marked, AllMarked}
+use Rattle.terms.proofs.Lists.{heights_of, widths_of, seams_of, heights_some, all_sized, AllSized, all_marked, AllMarked}
 use Rattle.stack.proofs.Valid.{valid}
-use Rattle.stack.proofs.Reading.{Held, components_held}
+use Rattle.stack.proofs.Reading.{Held, components_held, heights_held, widths_held, seams_held}
 use Rattle.group.specs.Group.{unbarred}
 use Rattle.layout.specs.Plan.{StackLists}
 use Rattle.layout.proofs.Bounds.{AllGaps, all_gaps}
 use Rattle.layout.proofs.Groups.{Stacked}
 use Rattle.layout.proofs.Marks.{stack_free}
 use Rattle.layout.proofs.Columns.{components_length, good_lists}
-use Rattle.fold.specs.Inner.{FirstLists}
-
-heights_some : (cs : List Component) → AllSized cs → (i : ℕ) → i < length (heights_of cs) → 1 ≤ get_or (heights_of cs) i 0
-heights_some [] s i h = absurd (omega arith)
-heights_some (c ∷ cs) s zero h = s.0.height_some
-heights_some (c ∷ cs) s (suc i) h = heights_some cs s.1 i (omega arith)
+use Rattle.plan.specs.Asks.{Plannable, PlanAsks}
+use Rattle.fold.specs.Inner.{Read}
 
 heights_most : (cs : List Component) → AllSized cs → (i : ℕ) → get_or (heights_of cs) i 0 ≤ 4000
 heights_most [] s i = omega arith
@@ -45,16 +43,20 @@ gaps_most [] s m i = omega arith
 gaps_most (c ∷ cs) s m zero = omega (arith, s.0, m.0)
 gaps_most (c ∷ cs) s m (suc i) = gaps_most cs s.1 m.1 i
 
-module _ {kind : Kind} {file : List ℕ} {n : ℕ} {heights widths seams : List ℕ} (h : Held kind file n heights widths seams) where
-  lists_held : StackLists kind (take n heights) (take n widths) (take n seams)
+module _ {kind : Kind} {file : List ℕ} {n : ℕ} {room : List Piece} (h : Held kind file n room) where
+  -- The list is long enough for its first n pieces.
+  pub long_enough : length (take n room) ≡ n
+  long_enough = ap length h.in_room ∙ length-map h.components piece_of ∙ h.count
+
+  lists_held : columns (take n room) (StackLists kind)
   lists_held =
       let cs = h.components in
       let v = (valid kind file cs h.checked).stack in
       let s = all_sized cs v.sizes in
-      let l : length (heights_of cs) ≡ length cs = length-map (λ c. c.height.0) cs in
-      rw (h.in_heights, h.in_widths, h.in_seams) (record {
-        same_widths = length-map (λ c. c.width.0) cs ∙ sym l;
-        same_seams = length-map seam_of cs ∙ sym l;
+      let l : length (heights_of cs) ≡ length cs = length-map cs (λ c. c.height.0) in
+      rw (heights_held h, widths_held h, seams_held h) (record {
+        same_widths = length-map cs (λ c. c.width.0) ∙ sym l;
+        same_seams = length-map cs seam_of ∙ sym l;
         few = omega (arith, v.few);
         tall = heights_some cs s;
         low = heights_most cs s;
@@ -63,18 +65,21 @@ module _ {kind : Kind} {file : List ℕ} {n : ℕ} {heights widths seams : List 
         near = gaps_most cs (all_gaps cs v.gaps) (all_marked cs v.marks);
       })
 
-  pub first_held : length heights ≡ 256 → length widths ≡ 256 → length seams ≡ 256 → FirstLists kind n heights widths seams
-  first_held a b d =
+  pub read : Read kind (take n room)
+  read =
       let v = (valid kind file h.components h.checked).stack in
-      let f : n ≤ 256 = omega (arith, v.few, most_256 kind, h.count) in
       record {
-        heights_long = omega arith;
-        widths_long = omega arith;
-        seams_long = omega arith;
-        some = omega (arith, v.some, h.count);
+        some = omega (arith, long_enough, v.some, h.count);
         lists = lists_held;
         free = rw (components_held h) (stack_free h.components v.marks);
       }
 
 pub stacked : (kind : Kind) (hs ws gs : List ℕ) → StackLists kind hs ws gs → 0 < length hs → unbarred (components_in hs ws gs) ≡ true → Stacked (components_in hs ws gs)
 stacked kind hs ws gs s p f = record { some = omega (arith, components_length hs ws gs); good = good_lists s; free = f }
+
+-- So of a stack that can be planned.
+pub stacked_asks : {kind : Kind} {limit : ℕ} {hs ws gs widths heights ends es : List ℕ} → PlanAsks kind limit hs ws gs widths heights ends es → Stacked (components_in hs ws gs)
+stacked_asks {kind} {hs = hs} {ws = ws} {gs = gs} a = stacked kind hs ws gs a.lists a.some a.free
+
+pub stacked_plan : {kind : Kind} {hs ws gs work : List ℕ} → Plannable kind hs ws gs work → Stacked (components_in hs ws gs)
+stacked_plan {kind} {hs = hs} {ws = ws} {gs = gs} a = stacked kind hs ws gs a.lists a.some a.free

@@ -1,6 +1,5 @@
 pub mod Checks
 pub mod Held
-pub mod Guesses
 pub mod Limits
 pub mod Answering
 pub mod OneAnswer

@@ -3,18 +3,19 @@
 
 ghost use Rattle.std.specs.Prelude.{◌≡◌, ◌*◌, ◌≤◌, ◌<◌};
 ghost use Rattle.terms.specs.Numbers.{most_limit};
-ghost use Rattle.terms.specs.Answer.{count_answer};
-ghost use Rattle.terms.specs.Seams.{components_in};
-ghost use Rattle.folding.specs.Calls.{measured_answer};
+ghost use Rattle.terms.specs.Answer.{answer_of};
+ghost use Rattle.terms.specs.Pieces.{columns, stack_in};
+ghost use Rattle.layout.specs.Plan.{lists};
 ghost use Rattle.best.specs.Asks.{Foldable, Written, most_cells};
-ghost use Rattle.fold.specs.Calls.{room_checks, fold_checks, by_height, by_width, Searched, ToHeight, ToWidth};
-ghost use Rattle.fold.specs.Inner.{FirstLists, FirstAnswered, LeastFound, LeastAsks};
+ghost use Rattle.fold.specs.Calls.{room_checks, fold_checks, by_width, Searched, ToHeight, ToWidth};
+ghost use Rattle.fold.specs.Inner.{LeastFound, LeastAsks};
 
-use best::{long, product};
-use folding::{Measured, Outline};
+use best::product;
+use folding::Outline;
 use group::NONE;
+use layout::Entry;
 use plan::LISTED;
-use terms::{Counted, Kind, LEAST_WORK, MOST_APART, MOST_LIMIT, Refusal, Rows, Slices};
+use terms::{Kind, LEAST_WORK, MOST_APART, MOST_LIMIT, Piece, Refusal, Rows, Slices};
 
 // The plans of a search that may all be guessed. Of the later ones every second halves.
 const GUESSED: u32 = 4;
@@ -33,35 +34,29 @@ const SECOND_RISE: u32 = 16;
 
 const LATER_RISE: u32 = 4;
 
-// What a search for a height found, and the limit of the plan that its lists hold. That is 0 where they hold none.
-#[derive(Clone, Copy)]
+// What a search for a height found, and the limit that its last plan is for: 0 where it made none.
+#[derive(Clone, Copy, Debug, PartialEq, Eq)]
 struct Least {
     limit: Rows,
     known: Rows,
 }
 
 // Refusal 8 of a call that writes a folding, with buffers of these lengths lent.
-pub fn check_room(n: usize, out: usize, work: usize) -> Counted
-    ensures { count_answer result ≡ room_checks out work n n }
+pub fn check_room(n: usize, out: usize, work: usize) -> Result<usize, Refusal>
+    ensures { answer_of result ≡ room_checks out work n n }
 {
-    if out / 3 < n {
-        return Counted::Refused(Refusal::ShortBuffer);
+    if out / 3 < n || work < LEAST_WORK {
+        return Err(Refusal::ShortBuffer);
     }
-    if work < LEAST_WORK {
-        return Counted::Refused(Refusal::ShortBuffer);
-    }
-    Counted::Count(n)
+    Ok(n)
 }
 
 // Refusals 7 and 8 of a fold call.
-fn check_lent(n: usize, limit: u32, out: usize, work: usize) -> Counted
-    ensures { count_answer result ≡ fold_checks limit out work n n }
+fn check_lent(n: usize, limit: u32, out: usize, work: usize) -> Result<usize, Refusal>
+    ensures { answer_of result ≡ fold_checks limit out work n n }
 {
-    if limit < 1 {
-        return Counted::Refused(Refusal::BadLimit);
-    }
-    if MOST_LIMIT < limit {
-        return Counted::Refused(Refusal::BadLimit);
+    if limit < 1 || MOST_LIMIT < limit {
+        return Err(Refusal::BadLimit);
     }
     check_room(n, out, work)
 }
@@ -70,39 +65,23 @@ fn check_lent(n: usize, limit: u32, out: usize, work: usize) -> Counted
 fn write_low(
     kind: Kind,
     limit: Rows,
-    h: &[u16],
-    w: &[u16],
-    g: &[u16],
+    stack: &[Piece],
     out: &mut [u32],
     work: &mut [u32],
-) -> Measured
-    requires { Foldable kind limit.0 h.now w.now g.now out.old work.old }
-    ensures { Written kind (components_in h.now w.now g.now) limit.0
-        out.old out.new (measured_answer result) }
+) -> Result<Outline, Refusal>
+    requires { columns stack.now (Foldable kind limit.0) out.old work.old }
+    ensures { Written kind (stack_in stack.now) limit.0
+        out.old out.new (answer_of result) }
 {
-    let mut wide = [0u32; LISTED];
-    let mut high = [0u32; LISTED];
-    let mut ends = [0u32; LISTED];
-    best::write_best(
-        kind,
-        Rows(0),
-        limit,
-        h,
-        w,
-        g,
-        &mut wide,
-        &mut high,
-        &mut ends,
-        out,
-        work,
-    )
+    let mut plan = [Entry::UNMET; LISTED];
+    best::write_best(kind, Rows(0), limit, stack, &mut plan, out, work)
 }
 
 // The height to try first: the components' cells at the width asked, and what stays empty.
 fn first_guess(cells: u64, most: Slices) -> u64
     requires { (cells ≤ most_cells) × (0 < most.0) }
 {
-    let rows = cells / long(most.0);
+    let rows = cells / u64::from(most.0);
     rows + rows / SPARE
 }
 
@@ -111,28 +90,26 @@ fn in_proportion(height: Rows, width: Slices, most: Slices) -> u64
     requires { 0 < most.0 }
     ensures { result ≤ height.0 * width.0 }
 {
-    product(height.0, width.0) / long(most.0)
+    product(height.0, width.0) / u64::from(most.0)
 }
 
 // The height to try after a plan that keeps the width. Width times height changes little from outline to outline.
 fn lower_guess(most: Slices, o: Outline) -> u64
     requires { (0 < most.0) × (o.width.0 ≤ most.0) }
 {
-    if CLOSE * long(most.0 - o.width.0) < long(most.0) {
-        return long(o.height.0);
+    if CLOSE * u64::from(most.0 - o.width.0) < u64::from(most.0) {
+        return u64::from(o.height.0);
     }
     in_proportion(o.height, o.width, most)
 }
 
 // By how many rows the guess goes up behind a layout that is too wide, where `failed` in a row before it were so too.
 fn rise(tried: Rows, failed: u32) -> u32 {
-    if failed == 0 {
-        return tried.0 / RISE;
+    match failed {
+        0 => tried.0 / RISE,
+        1 => tried.0 / SECOND_RISE,
+        _ => tried.0 / LATER_RISE,
     }
-    if failed == 1 {
-        return tried.0 / SECOND_RISE;
-    }
-    tried.0 / LATER_RISE
 }
 
 // The height to try after a plan, where `failed` in a row before it were too wide. No answer rests on it.
@@ -143,9 +120,9 @@ fn next_guess(most: Slices, tried: Rows, o: Outline, failed: u32) -> u64
         return lower_guess(most, o);
     }
     if o.width.0 < NONE {
-        return in_proportion(tried, o.width, most) + long(rise(tried, failed));
+        return in_proportion(tried, o.width, most) + u64::from(rise(tried, failed));
     }
-    2 * long(tried.0)
+    2 * u64::from(tried.0)
 }
 
 // The next height to plan, from lo to below hi: as guessed, or the nearest. Where guesses go astray halving ends the search
@@ -154,18 +131,10 @@ fn pick(lo: u32, hi: u32, guess: u64, plans: u32) -> u32
     requires { (lo < hi) × (hi ≤ most_limit) }
     ensures { (lo ≤ result) × (result < hi) }
 {
-    if GUESSED <= plans {
-        if plans % 2 == 0 {
-            return lo + (hi - lo) / 2;
-        }
+    if GUESSED <= plans && plans % 2 == 0 {
+        return lo + (hi - lo) / 2;
     }
-    if guess <= long(lo) {
-        return lo;
-    }
-    if long(hi) <= guess {
-        return hi - 1;
-    }
-    guess as u32
+    guess.clamp(u64::from(lo), u64::from(hi - 1)) as u32
 }
 
 // The least height for which the best layout is at most so many slices wide, from one down for which it is. A layout that
@@ -176,18 +145,12 @@ fn least_height(
     most: Slices,
     top: Rows,
     first: u64,
-    h: &[u16],
-    w: &[u16],
-    g: &[u16],
-    widths: &mut [u32],
-    heights: &mut [u32],
-    ends: &mut [u32],
+    stack: &[Piece],
+    plan: &mut [Entry],
     work: &mut [u32],
 ) -> Least
-    requires { LeastAsks kind
-        h.now w.now g.now widths.old heights.old ends.old work.old most.0 top.0 }
-    ensures { LeastFound kind h.now w.now g.now
-        widths.new heights.new ends.new work.new most.0 result }
+    requires { lists plan.old (columns stack.now (LeastAsks kind)) work.old most.0 top.0 }
+    ensures { lists plan.new (columns stack.now (LeastFound kind)) work.new most.0 result }
 {
     let mut lo = 1;
     let mut hi = top.0;
@@ -198,7 +161,7 @@ fn least_height(
     while lo < hi {
         let mid = pick(lo, hi, guess, plans);
         let tried = Rows(mid);
-        let o = plan::replan(kind, known, tried, h, w, g, widths, heights, ends, work);
+        let o = plan::replan(kind, known, tried, stack, plan, work);
         known = tried;
         guess = next_guess(most, tried, o, failed);
         plans += 1;
@@ -225,95 +188,23 @@ fn least_height(
 fn write_slim(
     kind: Kind,
     most: Slices,
-    h: &[u16],
-    w: &[u16],
-    g: &[u16],
+    stack: &[Piece],
     out: &mut [u32],
     work: &mut [u32],
-) -> Measured
-    requires { Foldable kind most.0 h.now w.now g.now out.old work.old }
+) -> Result<Outline, Refusal>
+    requires { columns stack.now (Foldable kind most.0) out.old work.old }
     ensures { Searched (by_width kind most.0)
-        (components_in h.now w.now g.now)
-        out.old out.new (measured_answer result) }
+        (stack_in stack.now)
+        out.old out.new (answer_of result) }
 {
-    let flat = best::flat_of(h, w, g);
+    let flat = best::flat_of(stack);
     if most.0 < flat.widest.0 {
-        return Measured::Refused(Refusal::Unmeetable);
+        return Err(Refusal::Unmeetable);
     }
     let first = first_guess(flat.cells, most);
-    let mut wide = [0u32; LISTED];
-    let mut high = [0u32; LISTED];
-    let mut ends = [0u32; LISTED];
-    let least = least_height(
-        kind,
-        most,
-        flat.height,
-        first,
-        h,
-        w,
-        g,
-        &mut wide,
-        &mut high,
-        &mut ends,
-        work,
-    );
-    best::write_best(
-        kind,
-        least.known,
-        least.limit,
-        h,
-        w,
-        g,
-        &mut wide,
-        &mut high,
-        &mut ends,
-        out,
-        work,
-    )
-}
-
-// A stack that stands in the first n entries of three lists, to a height.
-fn first_to_height(
-    kind: Kind,
-    n: usize,
-    limit: Rows,
-    h: &[u16],
-    w: &[u16],
-    g: &[u16],
-    out: &mut [u32],
-    work: &mut [u32],
-) -> Measured
-    requires { FirstLists kind n h.now w.now g.now }
-    ensures { FirstAnswered (by_height kind limit.0) n limit.0
-        h.now w.now g.now out.old work.old
-        (measured_answer result) out.new work.new }
-{
-    match check_lent(n, limit.0, out.len(), work.len()) {
-        Counted::Refused(k) => Measured::Refused(k),
-        Counted::Count(_) => write_low(kind, limit, &h[..n], &w[..n], &g[..n], out, work),
-    }
-}
-
-// The same to a width.
-fn first_to_width(
-    kind: Kind,
-    n: usize,
-    limit: Slices,
-    h: &[u16],
-    w: &[u16],
-    g: &[u16],
-    out: &mut [u32],
-    work: &mut [u32],
-) -> Measured
-    requires { FirstLists kind n h.now w.now g.now }
-    ensures { FirstAnswered (by_width kind limit.0) n limit.0
-        h.now w.now g.now out.old work.old
-        (measured_answer result) out.new work.new }
-{
-    match check_lent(n, limit.0, out.len(), work.len()) {
-        Counted::Refused(k) => Measured::Refused(k),
-        Counted::Count(_) => write_slim(kind, limit, &h[..n], &w[..n], &g[..n], out, work),
-    }
+    let mut plan = [Entry::UNMET; LISTED];
+    let least = least_height(kind, most, flat.height, first, stack, &mut plan, work);
+    best::write_best(kind, least.known, least.limit, stack, &mut plan, out, work)
 }
 
 pub fn to_height(
@@ -322,17 +213,14 @@ pub fn to_height(
     limit: Rows,
     out: &mut [u32],
     work: &mut [u32],
-) -> Measured
+) -> Result<Outline, Refusal>
     ensures { ToHeight kind file.now limit.0
-        out.old work.old (measured_answer result) out.new work.new }
+        out.old work.old (answer_of result) out.new work.new }
 {
-    let mut h = [0u16; MOST_APART];
-    let mut w = [0u16; MOST_APART];
-    let mut g = [0u16; MOST_APART];
-    match stack::read_seams(file, kind, &mut h, &mut w, &mut g) {
-        Counted::Refused(k) => Measured::Refused(k),
-        Counted::Count(n) => first_to_height(kind, n, limit, &h, &w, &g, out, work),
-    }
+    let mut room = [Piece::NONE; MOST_APART];
+    let n = stack::read_pieces(file, kind, &mut room)?;
+    check_lent(n, limit.0, out.len(), work.len())?;
+    write_low(kind, limit, &room[..n], out, work)
 }
 
 pub fn to_width(
@@ -341,15 +229,12 @@ pub fn to_width(
     limit: Slices,
     out: &mut [u32],
     work: &mut [u32],
-) -> Measured
+) -> Result<Outline, Refusal>
     ensures { ToWidth kind file.now limit.0
-        out.old work.old (measured_answer result) out.new work.new }
+        out.old work.old (answer_of result) out.new work.new }
 {
-    let mut h = [0u16; MOST_APART];
-    let mut w = [0u16; MOST_APART];
-    let mut g = [0u16; MOST_APART];
-    match stack::read_seams(file, kind, &mut h, &mut w, &mut g) {
-        Counted::Refused(k) => Measured::Refused(k),
-        Counted::Count(n) => first_to_width(kind, n, limit, &h, &w, &g, out, work),
-    }
+    let mut room = [Piece::NONE; MOST_APART];
+    let n = stack::read_pieces(file, kind, &mut room)?;
+    check_lent(n, limit.0, out.len(), work.len())?;
+    write_slim(kind, limit, &room[..n], out, work)
 }

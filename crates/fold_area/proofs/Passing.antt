@@ -28,7 +28,7 @@ use Rattle.best.specs.declared.Flat.{Flat}
 use Rattle.best.specs.Asks.{Unfolded, Written}
 use Rattle.fold.specs.Calls.{Searched}
 use Rattle.fold_area.specs.Calls.{by_area}
-use Rattle.fold_area.specs.Inner.{Bounds, Lead, Passing, SmallestFor}
+use Rattle.fold_area.specs.Inner.{Lead, Passing, SmallestFor}
 
 module _ (kind : Kind) (cs : List Component) (s : Stacked cs) where
   -- What leads where no folding is within the limit.
@@ -87,25 +87,25 @@ module _ (kind : Kind) (cs : List Component) (s : Stacked cs) where
     pub smaller_leads : Lead kind cs (smaller_of p o)
     smaller_leads = rw e (here_leads (omega (arith, no_larger (smaller_of (best_at kind limit cs) o) o (smaller_second (best_at kind limit cs) o), lead.small)))
 
-  module _ {wide tall cells : ℕ} (b : Bounds cs wide tall cells) where
-    cells_kept : (ps : List Placement) → Legal kind cs ps → cells ≤ area_of (outline_of cs ps)
-    cells_kept ps l = rw b.cells_is (cells_most cs ps l.whole)
+  module _ (f : Flat) (u : Unfolded cs f) where
+    cells_kept : (ps : List Placement) → Legal kind cs ps → f.cells ≤ area_of (outline_of cs ps)
+    cells_kept ps l = rw u.cells_is (cells_most cs ps l.whole)
 
-    pub first_asks : (o : Outline) → Lead kind cs o → (0 < wide) × (area_of o ≤ wide * 2000000)
-    first_asks o l = rw b.widest_is (widest_wide, l.small)
+    pub first_asks : (o : Outline) → Lead kind cs o → (0 < f.widest.0) × (area_of o ≤ f.widest.0 * 2000000)
+    first_asks o l = rw u.widest_is (widest_wide, l.small)
 
-    pub starts : (o : Outline) → Lead kind cs o → Passing kind cs o (next_limit o wide cells)
+    pub starts : (o : Outline) → Lead kind cs o → Passing kind cs o (next_limit o f.widest.0 f.cells)
     starts o l =
         let q = first_asks o l in
         record {
           lead = l;
-          leads = leads_first (search kind cs s) cells cells_kept o wide l.wide q.0 (λ ps k. rw b.widest_is (none_narrower kind cs s ps k)) l.reached;
-          most = limit_most o wide 2000000 cells q.1;
+          leads = leads_first (search kind cs s) f.cells cells_kept o f.widest.0 l.wide q.0 (λ ps k. rw u.widest_is (none_narrower kind cs s ps k)) l.reached;
+          most = limit_most o f.widest.0 2000000 f.cells q.1;
         }
 
     -- No folding is lower than the tallest component.
-    pub ends_low : (o : Outline) (limit : ℕ) → Passing kind cs o limit → limit < tall → SmallestFor kind cs o.height.0
-    ends_low o limit i h = ended o limit i (λ ps l k. absurd (omega (arith, b.tallest_is, tallest_most cs ps l.whole)))
+    pub ends_low : (o : Outline) (limit : ℕ) → Passing kind cs o limit → limit < f.tallest.0 → SmallestFor kind cs o.height.0
+    ends_low o limit i h = ended o limit i (λ ps l k. absurd (omega (arith, u.tallest_is, tallest_most cs ps l.whole)))
 
     module _ (o : Outline) (limit : ℕ) (i : Passing kind cs o limit) (p : Outline) (e : p ≡ best_at kind limit cs) where
       pub ends_unmet : none ≤ p.width.0 → SmallestFor kind cs o.height.0
@@ -118,18 +118,18 @@ module _ (kind : Kind) (cs : List Component) (s : Stacked cs) where
         pub fits : area_of (smaller_of p o) ≤ (p.width.0 + 1) * 2000000
         fits =
             rw e (let w : (layout_of kind limit 0 cs).width ≤ (layout_of kind limit 0 cs).width + 1 = omega arith in
-            omega (arith, next_small (search kind cs s) cells cells_kept o limit i.leads kept, mul-le-mul w (here_low o i.lead limit i.most p e m)))
+            omega (arith, next_small (search kind cs s) f.cells cells_kept o limit i.leads kept, mul-le-mul w (here_low o i.lead limit i.most p e m)))
 
-        pub limit_less : next_limit (smaller_of p o) (p.width.0 + 1) cells < limit
-        limit_less = rw e (falls (search kind cs s) cells cells_kept o limit i.leads kept)
+        pub limit_less : next_limit (smaller_of p o) (p.width.0 + 1) f.cells < limit
+        limit_less = rw e (falls (search kind cs s) f.cells cells_kept o limit i.leads kept)
 
-        pub goes_on : Passing kind cs (smaller_of p o) (next_limit (smaller_of p o) (p.width.0 + 1) cells)
+        pub goes_on : Passing kind cs (smaller_of p o) (next_limit (smaller_of p o) (p.width.0 + 1) f.cells)
         goes_on =
             let l = smaller_leads o i.lead limit i.most p e m in
             rw e (record {
               lead = rw e at l;
-              leads = leads_on (search kind cs s) cells cells_kept o limit i.leads kept (here_wide o i.lead limit i.most p e m);
-              most = omega (arith, falls (search kind cs s) cells cells_kept o limit i.leads kept, i.most);
+              leads = leads_on (search kind cs s) f.cells cells_kept o limit i.leads kept (here_wide o i.lead limit i.most p e m);
+              most = omega (arith, falls (search kind cs s) f.cells cells_kept o limit i.leads kept, i.most);
             })
 
   -- The best folding within that height has the smallest area.

@@ -1,10 +1,8 @@
 -- What the functions inside this crate promise each other. Nothing here is part of a public promise.
-use Rattle.std.specs.Prelude.{ℕ, ◌*◌, ◌≤◌, ◌<◌, ◌≡◌, List, length, take}
+use Rattle.std.specs.Prelude.{ℕ, ◌*◌, ◌≤◌, ◌<◌, List}
 use Rattle.terms.specs.Numbers.{most_limit}
 use Rattle.terms.specs.declared.Component.{Component}
 use Rattle.terms.specs.declared.Kind.{Kind}
-use Rattle.terms.specs.Answer.{Answer}
-use Rattle.terms.specs.Component.{cell_sum, tallest}
 use Rattle.terms.specs.Seams.{components_in}
 use Rattle.folding.specs.declared.Outline.{Outline}
 use Rattle.folding.specs.declared.Placement.{Placement}
@@ -16,15 +14,7 @@ use Rattle.group.specs.Group.{none, widest}
 use Rattle.layout.specs.Layout.{layout_of}
 use Rattle.plan.specs.Asks.{best_at}
 use Rattle.plan.specs.Memory.{Known}
-use Rattle.fold.specs.Calls.{room_checks, Answered}
 use Rattle.fold_area.specs.declared.Found.{Found}
-use Rattle.fold_area.specs.Calls.{by_area}
-
--- The widest and the tallest component of a stack, and the cells of all.
-pub record Bounds (cs : List Component) (wide tall cells : ℕ) : Type 0 where
-  pub widest_is : wide ≡ widest cs
-  pub tallest_is : tall ≡ tallest cs
-  pub cells_is : cells ≡ cell_sum cs
 
 -- An outline to lead with: a layout within its height is no wider, and its area is at most that of the greatest height at the
 -- width of the widest component.
@@ -47,14 +37,7 @@ pub record SmallestFor (kind : Kind) (cs : List Component) (height : ℕ) : Type
   pub met : (layout_of kind height 0 cs).width < none
   pub smallest : (other : List Placement) → Legal kind cs other → Larger (best_at kind height cs) (outline_of cs other)
 
--- What the pass finds. The lists and the work buffer hold a plan if `known` is not 0.
+-- What the pass finds. The entries and the work buffer hold a plan if `known` is not 0.
 pub record AreaFound (kind : Kind) (hs ws gs widths heights ends work : List ℕ) (r : Found) : Type 0 where
   pub smallest_for : SmallestFor kind (components_in hs ws gs) r.height.0
   pub held : Known kind r.known.0 0 hs ws gs widths heights ends work
-
--- What the call answers for the stack in the first n entries of three lists: its checks behind the file's own refusals, and
--- then the search.
-abbrev pub FirstSmallest : Kind → ℕ → List ℕ → List ℕ → List ℕ → List ℕ → List ℕ → Answer Outline → List ℕ → List ℕ → Type 0
-FirstSmallest kind n hs ws gs out work answer out' work' =
-    Answered (by_area kind) out work out' work' answer
-    (room_checks (length out) (length work) n (components_in (take n hs) (take n ws) (take n gs)))

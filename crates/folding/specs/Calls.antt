@@ -1,21 +1,15 @@
 -- What measuring and choosing answer (document 01, "Calls").
-use Rattle.std.specs.Prelude.{ℕ, ◌*◌, ◌/◌, List, [], Bool, not, cond, ◌&&◌, ◌||◌, length, take, ltb, eqb}
+use Rattle.std.specs.Prelude.{ℕ, ◌*◌, ◌/◌, List, [], Bool, not, cond, Option, None, Some, ◌&&◌, ◌||◌, length, take, ltb, eqb}
 use Rattle.terms.specs.declared.Component.{Component}
 use Rattle.terms.specs.declared.Kind.{Kind}
-use Rattle.terms.specs.Answer.{Answer, refusal, result, refuse_if, and_then, number_of}
+use Rattle.terms.specs.Answer.{Answer, refusal, result, refuse_if, and_then}
 use Rattle.stack.specs.File.{check_of}
 use Rattle.folding.specs.declared.Outline.{Outline}
-use Rattle.folding.specs.declared.Measured.{Measured}
 use Rattle.folding.specs.declared.Winner.{Winner}
-use Rattle.folding.specs.declared.Winner.TheVariants.{First, Second, Neither}
+use Rattle.folding.specs.declared.Winner.TheVariants.{First, Second}
 use Rattle.folding.specs.Placement.{placed_of, placements_of}
 use Rattle.folding.specs.Legal.{legal}
 use Rattle.folding.specs.Outline.{outline_of}
-
--- The answer of measuring: the outline.
-abbrev pub measured_answer : Measured → Answer Outline
-measured_answer (Measured.Outlined o) = result o
-measured_answer (Measured.Refused k) = refusal (number_of k)
 
 -- Refusal 8, "fewer than n placements", then 10, "the placements are not legal". "Numbers past the nth placement are not
 -- read, and an incomplete placement doesn't count."
@@ -34,17 +28,17 @@ abbrev pub second_wins : Outline → Outline → Bool
 second_wins o p = ltb p.width.0 o.width.0 || (eqb p.width.0 o.width.0 && ltb p.height.0 o.height.0)
 
 -- Which of two measured foldings wins. "If measuring would refuse either folding", neither does.
-abbrev pub winner_is : Answer Outline → Answer Outline → Winner
-winner_is (refusal j) q = Neither
-winner_is (result o) (refusal k) = Neither
-winner_is (result o) (result p) = cond (second_wins o p) Second First
+abbrev pub winner_is : Answer Outline → Answer Outline → Option Winner
+winner_is (refusal j) q = None
+winner_is (result o) (refusal k) = None
+winner_is (result o) (result p) = Some (cond (second_wins o p) Second First)
 
 -- "hands back the winner's placements as a part of its own buffer", or an empty part: with n placements, of three numbers
 -- each.
-abbrev pub winners_part : ℕ → Winner → List ℕ → List ℕ → List ℕ
-winners_part n First first second = take (3 * n) first
-winners_part n Second first second = take (3 * n) second
-winners_part n Neither first second = []
+abbrev pub winners_part : ℕ → Option Winner → List ℕ → List ℕ → List ℕ
+winners_part n (Some First) first second = take (3 * n) first
+winners_part n (Some Second) first second = take (3 * n) second
+winners_part n None first second = []
 
 abbrev pub chosen_in : Kind → List ℕ → List ℕ → Answer (List Component) → List ℕ
 chosen_in kind first second (refusal k) = []

@@ -1,12 +1,13 @@
-// Foldings: their placements and outlines, and what measuring and choosing answer.
+// Foldings: their placements and outlines.
 #![tactic(auto)]
 
-use terms::{Component, Refusal, Rows, Slices};
+use terms::{Component, Rows, Slices};
 
 // The highest start row of a placement.
 pub const MOST_START: u32 = 1024000;
 
-#[derive(Clone, Copy)]
+// The side is 0 for left and 1 for right; as a caller lends it, it may be any number, which is then no legal folding.
+#[derive(Clone, Copy, Debug, PartialEq, Eq)]
 pub struct Placement {
     pub group: u32,
     pub side: u32,
@@ -14,28 +15,21 @@ pub struct Placement {
 }
 
 // A component of a stack with its placement.
-#[derive(Clone, Copy)]
+#[derive(Clone, Copy, Debug, PartialEq, Eq)]
 pub struct Placed {
     pub component: Component,
     pub placement: Placement,
 }
 
-#[derive(Clone, Copy)]
+#[derive(Clone, Copy, Debug, PartialEq, Eq)]
 pub struct Outline {
     pub width: Slices,
     pub height: Rows,
 }
 
-#[derive(Clone, Copy)]
-pub enum Measured {
-    Outlined(Outline),
-    Refused(Refusal),
-}
-
-// The first or the second of two foldings, or neither.
-#[derive(Clone, Copy)]
+// Which of two foldings wins.
+#[derive(Clone, Copy, Debug, PartialEq, Eq)]
 pub enum Winner {
     First,
     Second,
-    Neither,
 }

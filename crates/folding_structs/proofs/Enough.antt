@@ -2,7 +2,6 @@
 use mathlib.Core.Path.{◌≡◌, refl, sym, ◌∙◌, ap}
 use Prim.Native.Nat.{ℕ, zero, suc, ◌+◌, ◌*◌, ◌/◌, ◌≤◌, ◌<◌, min}
 use native.Mathlib.Omega.{arith}
-use native.Mathlib.Decide.{dec_le}
 use mathlib.Core.List.{List, [], ◌∷◌}
 use mathlib.Core.Bool.{false}
 use mathlib.Core.Logic.{◌⊎◌, inl, inr}
@@ -14,18 +13,15 @@ use Rattle.terms.specs.declared.Component.{Component}
 use Rattle.terms.specs.declared.Kind.{Kind}
 use Rattle.terms.specs.Answer.{Answer, refusal, result, and_then}
 use Rattle.terms.proofs.Answers.{most_256}
+use Rattle.terms.proofs.Order.{order}
 use Rattle.terms.proofs.Tabulate.{tabulate_same}
 use Rattle.stack.specs.File.{check_of}
 use Rattle.stack.proofs.Valid.{valid}
 use Rattle.folding.specs.declared.Placement.{Placement}
-use Rattle.folding.specs.Placement.{placement_at, placements_of}
+use Rattle.folding.specs.Placement.{placement_at, placements_of, flat_of}
 use Rattle.folding.specs.Calls.{measure_in, measure_of}
-use Rattle.folding_structs.proofs.Lists.{none}
-use Rattle.folding.specs.Placement.{flat_of}
 use Rattle.folding.proofs.Flat.{flat-length}
-
-order : (a b : ℕ) → (a ≤ b) ⊎ (b < a)
-order a b = elim (dec_le a b) [ yes h ↦ inl h | no h ↦ inr (omega arith) ]
+use Rattle.folding_structs.proofs.Lists.{none}
 
 -- The placement at i of the flat numbers is that of the slice.
 flat_at : (ps : List Placement) (i : ℕ) → i < length ps → placement_at (flat_of ps) i ≡ get_or ps i none

@@ -1,10 +1,10 @@
 -- The flat numbers, placement after placement.
 use mathlib.Core.Path.{◌≡◌, sym, ◌∙◌, ap}
-use Prim.Native.Nat.{ℕ, suc, ◌+◌, ◌*◌, ◌≤◌, ◌<◌}
+use Prim.Native.Nat.{ℕ, suc, ◌+◌, ◌*◌, ◌<◌}
 use native.Mathlib.Omega.{arith}
-use mathlib.Core.List.{List, [], ◌∷◌, ◌++◌, append_assoc}
-use lib.ListN.{length, take, set, get_or, length-set}
-use lib.Seq.{take-suc, take-suc-set}
+use mathlib.Core.List.{List, [], ◌∷◌, ◌++◌}
+use lib.ListN.{length, take, get_or}
+use lib.Seq.{take-suc}
 use Rattle.folding.specs.declared.Placement.{Placement}
 use Rattle.folding.specs.Placement.{flat_of}
 use Rattle.folding.proofs.Flat.{flat_append}
@@ -12,16 +12,6 @@ use Rattle.folding.proofs.Flat.{flat_append}
 -- Where an entry is asked for past the end of a list.
 abbrev pub none : Placement
 none = record { group = 0; side = 0; start = 0 }
-
-one : (a : List ℕ) (n m x : ℕ) → m ≡ suc n → n < length a → take m (set a n x) ≡ take n a ++ (x ∷ [])
-one a n m x e h = ap (λ (k : ℕ). take k (set a n x)) e ∙ take-suc-set a n x h
-
--- Three numbers more.
-pub three : (a : List ℕ) (n x y z : ℕ) → n + 3 ≤ length a → take (n + 3) (set (set (set a n x) (n + 1) y) (n + 2) z) ≡ take n a ++ (x ∷ y ∷ z ∷ [])
-three a n x y z h =
-    one (set (set a n x) (n + 1) y) (n + 2) (n + 3) z (omega arith) (simp length-set (omega arith))
-    ∙ ap (λ (l : List ℕ). l ++ (z ∷ [])) (one (set a n x) (n + 1) (n + 2) y (omega arith) (simp length-set (omega arith)) ∙ ap (λ (l : List ℕ). l ++ (y ∷ [])) (one a n (n + 1) x (omega arith) (omega arith)))
-    ∙ append_assoc (take n a ++ (x ∷ [])) (y ∷ []) (z ∷ []) ∙ append_assoc (take n a) (x ∷ []) (y ∷ z ∷ [])
 
 -- One placement more.
 pub flat_next : (ps : List Placement) (i : ℕ) → i < length ps → flat_of (take (i + 1) ps) ≡ flat_of (take i ps) ++ ((get_or ps i none).group ∷ (get_or ps i none).side ∷ (get_or ps i none).start ∷ [])

@@ -8,6 +8,7 @@ use native.Mathlib.Nat.{le_antisymm}
 use native.Mathlib.Omega.{arith}
 use lib.ListN.{length, get_or, take}
 use lib.Seq.{take_all}
+use borrow.Author.Count.{below_more}
 use Rattle.terms.specs.declared.Component.{Component}
 use Rattle.terms.specs.declared.Kind.TheVariants.{Nested}
 use Rattle.terms.specs.Seams.{gap_at, component_in, components_in}
@@ -25,52 +26,16 @@ use Rattle.group.proofs.Bare.{rows_bare}
 use Rattle.group.proofs.Gaps.{tall_entry, gap_behind_lem, gap_behind_all}
 use Rattle.group_height.proofs.Barred.{rows_free, free_or_far}
 
--- The fold points below p are done.
-pub record Passing (g0 : ℕ) (gs es : List ℕ) (v at p : ℕ) : Type 0 where
-  pub some : 0 < p
-  pub within : p ≤ length gs
-  pub low : v ≤ 600000
-  pub so_far : Pass g0 gs es (p - 1) v at
+-- The pass goes on past the fold point p, where the height is t.
+module _ {g0 : ℕ} {gs es : List ℕ} {v at p : ℕ} (i : Pass g0 gs es p v at) (t : ℕ) (e : t ≡ fold_by g0 gs es p) where
+  most_next : (v' : ℕ) → v' ≤ v → v' ≤ t → (q : ℕ) → q < p + 1 → 0 < q → v' ≤ fold_by g0 gs es q
+  most_next v' h k = below_more _ p (λ q l s. omega (arith, i.fold_most q s l)) (λ s. omega arith)
 
-module _ {g0 : ℕ} {gs es : List ℕ} (r : PassAsks g0 gs es) where
-  pub fold_sum : (p cell rows most last : ℕ) → cell ≡ get_or es (p * stride + p) 0 → rows ≡ fold_rows most gs p → most ≡ max g0 last → last ≡ gap_at gs (length gs - 1)
-      → cell + rows ≡ fold_by g0 gs es p
-  fold_sum p cell rows most last a b c d = rw (a, b, c, d)
+  pub pass_lower : 0 < p → p < length gs → t < v → Pass g0 gs es (p + 1) t p
+  pass_lower s l h = record { flat_most = omega (arith, i.flat_most); fold_most = λ q s' l'. most_next t (omega arith) (omega arith) q l' s'; point = fold s l e }
 
-  pub pass_start : (v : ℕ) → v ≡ flat_by g0 gs es → Passing g0 gs es v (length gs) 1
-  pass_start v e = record {
-    some = omega arith;
-    within = r.some;
-    low = omega (arith, r.small 0 r.some, r.first_low, r.gaps_low (length gs - 1));
-    so_far = record { flat_most = omega arith; fold_most = λ q s l. absurd (omega arith); point = flat refl e };
-  }
-
-  module _ {v at p : ℕ} (i : Passing g0 gs es v at p) (more : p < length gs) (t : ℕ) (e : t ≡ fold_by g0 gs es p) where
-    most_next : (v' : ℕ) → v' ≤ v → v' ≤ t → (q : ℕ) → 0 < q → q ≤ p + 1 - 1 → v' ≤ fold_by g0 gs es q
-    most_next v' h k q s l = go (order p q)
-      where
-        go : (p ≤ q) ⊎ (q < p) → v' ≤ fold_by g0 gs es q
-        go (inl o) = let z : q ≡ p = omega arith in rw z (omega arith)
-        go (inr o) = omega (arith, i.so_far.fold_most q s (omega arith))
-
-    pub pass_lower : (v' at' : ℕ) → t < v → v' ≡ t → at' ≡ p → Passing g0 gs es v' at' (p + 1)
-    pass_lower v' at' h x y = rw (x, y) record {
-      some = omega arith;
-      within = omega arith;
-      low = omega (arith, i.low);
-      so_far = record { flat_most = omega (arith, i.so_far.flat_most); fold_most = most_next t (omega arith) (omega arith); point = fold i.some more e };
-    }
-
-    pub pass_on : (v' at' : ℕ) → v ≤ t → v' ≡ v → at' ≡ at → Passing g0 gs es v' at' (p + 1)
-    pass_on v' at' h x y = rw (x, y) record {
-      some = omega arith;
-      within = omega arith;
-      low = i.low;
-      so_far = record { flat_most = i.so_far.flat_most; fold_most = most_next v (omega arith) h; point = i.so_far.point };
-    }
-
-  pub pass_ends : {v at p : ℕ} → Passing g0 gs es v at p → length gs ≤ p → Pass g0 gs es (length gs - 1) v at
-  pass_ends {v} {at} {p} i h = let z : p ≡ length gs = omega (arith, i.within) in rw z at i.so_far
+  pub pass_on : v ≤ t → Pass g0 gs es (p + 1) v at
+  pass_on h = record { flat_most = i.flat_most; fold_most = λ q s l. most_next v (omega arith) h q l s; point = i.point }
 
 -- The table may have been filled after the question whether it has room.
 module _ {g0 : ℕ} {hs ws gs old es : List ℕ} {cap : ℕ} (r : HeightAsks g0 hs ws gs old) (f : Filled hs ws es cap) where
@@ -108,7 +73,7 @@ module _ {g0 : ℕ} {hs ws gs old es : List ℕ} {cap : ℕ} (r : HeightAsks g0 
   long = r.seams_long ∙ sym (tabulate-length (component_in hs ws gs) (length hs))
 
   -- The height found is that of a way, and no way is lower.
-  module _ (v at : ℕ) (d : Pass g0 gs es (length gs - 1) v at) where
+  module _ (v at : ℕ) (d : Pass g0 gs es (length gs) v at) where
     abbrev cs : List Component
     cs = components_in hs ws gs
 

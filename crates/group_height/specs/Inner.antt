@@ -27,12 +27,12 @@ pub data Point (g0 : ℕ) (gs es : List ℕ) (v p : ℕ) : Type 0 where
   flat : p ≡ length gs → v ≡ flat_by g0 gs es → Point g0 gs es v p
   fold : 0 < p → p < length gs → v ≡ fold_by g0 gs es p → Point g0 gs es v p
 
--- The least height without a fold and over the first k fold points.
+-- The least height without a fold and over the fold points below k.
 pub record Pass (g0 : ℕ) (gs es : List ℕ) (k v p : ℕ) : Type 0 where
   pub flat_most : v ≤ flat_by g0 gs es
-  pub fold_most : (q : ℕ) → 0 < q → q ≤ k → v ≤ fold_by g0 gs es q
+  pub fold_most : (q : ℕ) → 0 < q → q < k → v ≤ fold_by g0 gs es q
   pub point : Point g0 gs es v p
 
 -- No way is lower than that with p components on the left.
 abbrev pub Lowest : ℕ → List ℕ → List ℕ → ℕ → Type 0
-Lowest g0 gs es p = (v : ℕ) × Pass g0 gs es (length gs - 1) v p
+Lowest g0 gs es p = (v : ℕ) × Pass g0 gs es (length gs) v p

@@ -169,17 +169,14 @@ module _ {g0 flat : ℕ} {hs ws gs work : List ℕ} {at limit wide cap : ℕ} (m
   from_widest : LowAsks g0 flat hs ws gs work limit wide wide cap
   from_widest = record { asks = m.asks; is_flat = m.is_flat; from = omega arith; to = m.asks.from; over = λ c l u. absurd (omega arith) }
 
-  unchanged : Remembered g0 hs ws gs work work at limit wide
-  unchanged = record { holds = m.holds; others = λ k l e. refl }
-
   module _ {width : ℕ} (e : width ≡ word_width (get_or work at 0)) where
     over_below : Over g0 hs ws gs limit wide width
     over_below c l u = m.holds.over c l (omega arith)
 
     -- The word answers.
     pub recalled : {height width' height' : ℕ} → height ≡ word_height (get_or work at 0) → height ≤ min limit 524286 → Recalled width height cap width' height'
-        → Narrow g0 hs ws gs limit cap width' height' × Remembered g0 hs ws gs work work at limit wide
-    recalled {height} {width'} {height'} f k q = (go (order width cap), unchanged)
+        → Narrow g0 hs ws gs limit cap width' height'
+    recalled {height} {width'} {height'} f k q = go (order width cap)
       where
         known : (wide ≤ word_width (get_or work at 0)) × (word_height (get_or work at 0) ≡ least_height Nested g0 (components_in hs ws gs) (word_width (get_or work at 0)))
         known = m.holds.least (omega arith)
@@ -190,15 +187,6 @@ module _ {g0 flat : ℕ} {hs ws gs work : List ℕ} {at limit wide cap : ℕ} (m
             rw (a.0, a.1) (least_known from_widest (omega (arith, known.0)) t over_below (f ∙ known.1 ∙ ap (least_height Nested g0 (components_in hs ws gs)) (sym e)) (omega arith))
         go (inr t) = rw (q.missed t) (ruled_out from_widest height' over_below t)
 
-    module _ {low : ℕ} (b : low ≡ max width wide) where
-      -- It rules out the caps asked for.
-      pub too_narrow : (h : ℕ) → cap < low → Narrow g0 hs ws gs limit cap none h × Remembered g0 hs ws gs work work at limit wide
-      too_narrow h t = (ruled_out from_widest h over_below (omega (arith, m.asks.from)), unchanged)
-
-      -- It is where a search starts.
-      pub search_asks : low ≤ cap → SearchAsks g0 flat hs ws gs work at limit wide low cap
-      search_asks t = record {
-        asks = record { asks = m.asks; is_flat = m.is_flat; from = omega arith; to = t; over = λ c l u. over_below c l (omega arith) };
-        behind = m.behind;
-        within = m.within;
-      }
+    -- It rules out the caps asked for.
+    pub too_narrow : {low : ℕ} → low ≡ max width wide → (h : ℕ) → cap < low → Narrow g0 hs ws gs limit cap none h
+    too_narrow b h t = ruled_out from_widest h over_below (omega (arith, m.asks.from))

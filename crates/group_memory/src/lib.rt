@@ -4,15 +4,15 @@
 #![tactic(auto)]
 
 ghost use Rattle.std.specs.Prelude.{◌≡◌, ◌<◌};
+ghost use Rattle.terms.specs.Pieces.{columns};
 ghost use Rattle.group_search.specs.Widths.{Narrow};
 ghost use Rattle.group_memory.specs.Memory.{widths, heights, word_width, word_height, MemoryAsks, Remembered};
 ghost use Rattle.group_memory.specs.Inner.{Small, Noted, Recalled, SearchAsks};
 
 use folding::Outline;
 use group::NONE;
-use group_search::Fit;
-use numbers::{CELLS, larger, lesser};
-use terms::{Rows, Slices};
+use numbers::CELLS;
+use terms::{Piece, Rows, Slices};
 
 // A word has room for this many heights. The other 13 bits are a width, and caps are at most 8,000.
 const HEIGHTS: u32 = 524288;
@@ -27,46 +27,53 @@ pub const NEVER: u32 = 8191;
 // The word of a group that was not searched yet: a bound of 0.
 pub const NOTHING: u32 = UNKNOWN;
 
-fn width_in(word: u32) -> Slices
-    ensures { result.0 ≡ word_width word }
-{
-    Slices(word / HEIGHTS)
-}
+// No width up to the cap will do.
+const MISSED: Outline = Outline {
+    width: Slices(NONE),
+    height: Rows(NONE),
+};
 
-fn height_in(word: u32) -> Rows
-    ensures { result.0 ≡ word_height word }
+// The width and the height that a word holds.
+fn known_in(word: u32) -> Outline
+    ensures width_value { result.width.0 ≡ word_width word }
+    ensures height_value { result.height.0 ≡ word_height word }
 {
-    Rows(word % HEIGHTS)
-}
-
-fn word_of(width: Slices, height: Rows) -> u32
-    requires { (width.0 < widths) × (height.0 < heights) }
-    ensures { (word_width result ≡ width.0) × (word_height result ≡ height.0) }
-{
-    width.0 * HEIGHTS + height.0
-}
-
-// The word for what a search found. A search that fails without any clash rules out every cap.
-fn note(fit: Fit) -> u32
-    requires { Small fit.width.0 fit.height.0 }
-    ensures { Noted fit.width.0 fit.height.0 fit.least.0 result }
-{
-    if fit.width.0 < NONE {
-        return word_of(fit.width, fit.height);
+    Outline {
+        width: Slices(word / HEIGHTS),
+        height: Rows(word % HEIGHTS),
     }
-    word_of(Slices(lesser(fit.least.0, NEVER)), Rows(UNKNOWN))
+}
+
+fn word_of(known: Outline) -> u32
+    requires { (known.width.0 < widths) × (known.height.0 < heights) }
+    ensures { (word_width result ≡ known.width.0) × (word_height result ≡ known.height.0) }
+{
+    known.width.0 * HEIGHTS + known.height.0
+}
+
+// The word for what a search found, with a width below which no cap will do. A search that fails without any clash rules out
+// every cap.
+fn note(found: Outline, least: Slices) -> u32
+    requires { Small found.width.0 found.height.0 }
+    ensures { Noted found.width.0 found.height.0 least.0 result }
+{
+    if found.width.0 < NONE {
+        return word_of(found);
+    }
+    word_of(Outline {
+        width: Slices(least.0.min(NEVER)),
+        height: Rows(UNKNOWN),
+    })
 }
 
 // A width that is known to be the least for the limit answers for every cap.
-fn recall(width: Slices, height: Rows, cap: Slices) -> Outline
-    ensures { Recalled width.0 height.0 cap.0 result.width.0 result.height.0 }
+fn recall(known: Outline, cap: Slices) -> Outline
+    ensures { Recalled known.width.0 known.height.0 cap.0 result.width.0 result.height.0 }
 {
-    if width.0 <= cap.0 {
-        return Outline { width, height };
-    }
-    Outline {
-        width: Slices(NONE),
-        height: Rows(NONE),
+    if known.width.0 <= cap.0 {
+        known
+    } else {
+        MISSED
     }
 }
 
@@ -74,9 +81,7 @@ fn recall(width: Slices, height: Rows, cap: Slices) -> Outline
 fn search(
     g0: Rows,
     flat: Rows,
-    h: &[u16],
-    w: &[u16],
-    g: &[u16],
+    stack: &[Piece],
     work: &mut [u32],
     at: usize,
     limit: Rows,
@@ -84,19 +89,20 @@ fn search(
     low: Slices,
     cap: Slices,
 ) -> Outline
-    requires { SearchAsks g0.0 flat.0 h.now w.now g.now work.old at
+    requires { columns stack.now (SearchAsks g0.0 flat.0) work.old at
         limit.0 widest.0 low.0 cap.0 }
-    ensures narrow { Narrow g0.0 h.now w.now g.now limit.0 cap.0
+    ensures narrow { columns stack.now (Narrow g0.0) limit.0 cap.0
         result.width.0 result.height.0 }
-    ensures remembered { Remembered g0.0 h.now w.now g.now
+    ensures remembered { columns stack.now (Remembered g0.0)
         work.old work.new at limit.0 widest.0 }
 {
-    let k = CELLS;
-    let fit = group_search::narrowest(g0, flat, h, w, g, &mut work[..k], limit, widest, low, cap);
-    work[at] = note(fit);
-    let width = fit.width;
-    let height = fit.height;
-    Outline { width, height }
+    let fit = group_search::narrowest(g0, flat, stack, &mut work[..CELLS], limit, widest, low, cap);
+    let found = Outline {
+        width: fit.width,
+        height: fit.height,
+    };
+    work[at] = note(found, fit.least);
+    found
 }
 
 // The least width up to the cap at which the group is within the limit, as `group_search::narrowest` finds it, with the help
@@ -104,33 +110,26 @@ fn search(
 pub fn narrowest(
     g0: Rows,
     flat: Rows,
-    h: &[u16],
-    w: &[u16],
-    g: &[u16],
+    stack: &[Piece],
     work: &mut [u32],
     at: usize,
     limit: Rows,
     widest: Slices,
     cap: Slices,
 ) -> Outline
-    requires { MemoryAsks g0.0 flat.0 h.now w.now g.now work.old at limit.0 widest.0 cap.0 }
-    ensures narrow { Narrow g0.0 h.now w.now g.now limit.0 cap.0
+    requires { columns stack.now (MemoryAsks g0.0 flat.0) work.old at limit.0 widest.0 cap.0 }
+    ensures narrow { columns stack.now (Narrow g0.0) limit.0 cap.0
         result.width.0 result.height.0 }
-    ensures remembered { Remembered g0.0 h.now w.now g.now
+    ensures remembered { columns stack.now (Remembered g0.0)
         work.old work.new at limit.0 widest.0 }
 {
-    let word = work[at];
-    let width = width_in(word);
-    let height = height_in(word);
-    if height.0 <= lesser(limit.0, UNKNOWN - 1) {
-        return recall(width, height, cap);
+    let known = known_in(work[at]);
+    if known.height.0 <= limit.0.min(UNKNOWN - 1) {
+        return recall(known, cap);
     }
-    let low = Slices(larger(width.0, widest.0));
+    let low = Slices(known.width.0.max(widest.0));
     if cap.0 < low.0 {
-        return Outline {
-            width: Slices(NONE),
-            height: Rows(NONE),
-        };
+        return MISSED;
     }
-    search(g0, flat, h, w, g, work, at, limit, widest, low, cap)
+    search(g0, flat, stack, work, at, limit, widest, low, cap)
 }

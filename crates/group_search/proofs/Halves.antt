@@ -18,7 +18,7 @@ use Rattle.group.proofs.Ways.{width_is, height_some}
 use Rattle.group.proofs.Falls.{falls}
 use Rattle.group.proofs.First.{first_is}
 use Rattle.group.proofs.Exact.{least_keeps}
-use Rattle.group_table.specs.Inner.{Low}
+use Rattle.group_search.specs.declared.Run.{Run}
 use Rattle.group_search.specs.Inner.{Bordered, SearchAsks, Searched, FirstCap}
 use Rattle.group_search.specs.Widths.{Over, LowAsks, Narrow}
 use Rattle.group_search.proofs.Searching.{least_flat}
@@ -34,19 +34,18 @@ unfolding widest tabulate
 widest_le g zero h = omega arith
 widest_le g (suc n) h = omega (arith, widest_snoc (tabulate g n) (g n), widest_le g n h, h n)
 
--- Between lo and hi is the least width; from `low` on all below lo are too narrow, and hi is not.
-pub record Halving (g0 : ℕ) (hs ws gs old es : List ℕ) (limit low high lo hi v : ℕ) : Type 0 where
-  pub long : length es ≡ length old
+-- Between lo and hi is the least width; from `low` on all below lo are too narrow, and hi, which is at most the cap, is not.
+pub record Halving (g0 : ℕ) (hs ws gs es : List ℕ) (limit low cap lo hi v : ℕ) : Type 0 where
   pub borders : Bordered hs es
   pub from : low ≤ lo
   pub order : lo ≤ hi
-  pub to : hi ≤ high
+  pub to : hi ≤ cap
   pub height : v ≡ least_height Nested g0 (components_in hs ws gs) hi
   pub within : v ≤ limit
   pub over : Over g0 hs ws gs limit low lo
 
 -- A search that fails at a cap shows that all caps below `clash` are too narrow.
-above : {g0 : ℕ} {hs ws gs : List ℕ} {limit mid t fit clash : ℕ} → Searched g0 hs ws gs limit mid t fit clash → limit < t → (c : ℕ) → c < clash → limit < least_height Nested g0 (components_in hs ws gs) c
+above : {g0 : ℕ} {hs ws gs : List ℕ} {limit mid : ℕ} {run : Run} → Searched g0 hs ws gs limit mid run → limit < run.height.0 → (c : ℕ) → c < run.clash.0 → limit < least_height Nested g0 (components_in hs ws gs) c
 above {g0} {hs} {ws} {gs} {limit} {mid} s o c k = ⊎_elim
     (λ (n : c ≤ mid). omega (arith, falls (may_stand Nested) g0 (components_in hs ws gs) c mid n, s.least mid s.fits s.clashes))
     (λ (n : mid < c). omega (arith, s.least c (omega (arith, s.fits)) k))
@@ -58,9 +57,6 @@ module _ {g0 flat : ℕ} {hs ws gs es : List ℕ} {limit wide low cap : ℕ} (r 
 
   pub cap_low : cap ≤ 8000
   cap_low = omega (arith, r.asks.to, r.asks.is_widest, widest_le (component_in hs ws gs) (length hs) r.asks.asks.table.columns.slim)
-
-  pub low_asks : Low hs es
-  low_asks = record { few = r.asks.asks.table.few; low = r.asks.asks.table.columns.low; room = r.asks.asks.table.room }
 
   pub asks_at : (fs : List ℕ) (c : ℕ) → Bordered hs fs → c ≤ cap → SearchAsks g0 flat hs ws gs fs limit c
   asks_at fs c b l =
@@ -80,9 +76,9 @@ module _ {g0 flat : ℕ} {hs ws gs es : List ℕ} {limit wide low cap : ℕ} (r 
     over = λ u. refl;
   }
 
-  module _ {top t fit clash : ℕ} (f : FirstCap flat limit low cap top) (s : Searched g0 hs ws gs limit top t fit clash) where
+  module _ {top : ℕ} {run : Run} (f : FirstCap flat limit low cap top) (s : Searched g0 hs ws gs limit top run) where
     -- Below the greatest cap a search starts only where the group keeps the limit.
-    pub not_met : (h : ℕ) → limit < t → Narrow g0 hs ws gs limit cap none h × Over g0 hs ws gs limit wide clash
+    pub not_met : (h : ℕ) → limit < run.height.0 → Narrow g0 hs ws gs limit cap none h × Over g0 hs ws gs limit wide run.clash.0
     not_met h o = (go (order cap top), λ c l u. above s o c u)
       where
         go : (cap ≤ top) ⊎ (top < cap) → Narrow g0 hs ws gs limit cap none h
@@ -90,55 +86,25 @@ module _ {g0 flat : ℕ} {hs ws gs es : List ℕ} {limit wide low cap : ℕ} (r 
         go (inr k) =
             absurd (omega (arith, f.keeps k, r.is_flat, least_flat g0 cs (let n : 0 < length cs = omega (arith, tabulate-length (component_in hs ws gs) (length hs), r.asks.asks.some) in n) r.asks.asks.free top, s.least top s.fits s.clashes))
 
-    module _ {hi : ℕ} (e : hi ≡ max fit low) where
-      pub high_low : hi ≤ cap
-      high_low = omega (arith, s.fits, f.from, f.to)
-
-      pub halves_start : {fs : List ℕ} → Bordered hs fs → t ≤ limit → Halving g0 hs ws gs fs fs limit low hi low hi t
-      halves_start b o = record {
-        long = refl;
-        borders = b;
-        from = omega arith;
-        order = omega arith;
-        to = omega arith;
-        height = omega (arith, s.least hi (omega arith) (omega (arith, s.fits, s.clashes, f.from)));
-        within = o;
-        over = λ c l u. absurd (omega arith);
-      }
-
-  module _ {old fs : List ℕ} {high lo hi v : ℕ} (i : Halving g0 hs ws gs old fs limit low high lo hi v) where
-    module _ {mid t fit clash : ℕ} (s : Searched g0 hs ws gs limit mid t fit clash) (ds : List ℕ) (len : length ds ≡ length fs) (b : Bordered hs ds) (l : lo ≤ mid) (u : mid < hi) where
-      pub met : {hi' : ℕ} → t ≤ limit → hi' ≡ max fit lo → Halving g0 hs ws gs old ds limit low high lo hi' t
-      met {hi'} o e = record {
-        long = len ∙ i.long;
-        borders = b;
-        from = i.from;
-        order = omega arith;
-        to = omega (arith, s.fits, i.to);
-        height = omega (arith, s.least hi' (omega arith) (omega (arith, s.fits, s.clashes)));
-        within = o;
-        over = i.over;
-      }
-
-      pub missed : {lo' : ℕ} → limit < t → lo' ≡ min clash hi → Halving g0 hs ws gs old ds limit low high lo' hi v
-      missed {lo'} o e = record {
-        long = len ∙ i.long;
-        borders = b;
-        from = omega (arith, i.from, s.clashes);
-        order = omega arith;
-        to = i.to;
-        height = i.height;
-        within = i.within;
-        over = λ c p q. above s o c (omega arith);
-      }
+  module _ {fs : List ℕ} {lo hi v : ℕ} (i : Halving g0 hs ws gs fs limit low cap lo hi v) where
+    pub missed : {mid lo' : ℕ} {run : Run} {ds : List ℕ} → Searched g0 hs ws gs limit mid run → Bordered hs ds → lo ≤ mid → limit < run.height.0 → lo' ≡ min run.clash.0 hi → Halving g0 hs ws gs ds limit low cap lo' hi v
+    missed s b l o e = record {
+      borders = b;
+      from = omega (arith, i.from, i.order, s.clashes);
+      order = omega arith;
+      to = i.to;
+      height = i.height;
+      within = i.within;
+      over = λ c p q. above s o c (omega arith);
+    }
 
     all_over : Over g0 hs ws gs limit wide lo
     all_over c l u = ⊎_elim (λ (n : low ≤ c). i.over c n u) (λ (n : c < low). r.over c l n) (order low c)
 
-    pub halved : high ≤ cap → hi ≤ lo → Narrow g0 hs ws gs limit cap hi v × Over g0 hs ws gs limit wide lo
-    halved o h =
+    pub halved : hi ≤ lo → Narrow g0 hs ws gs limit cap hi v
+    halved h =
         let k : least_width Nested g0 cs limit ≡ hi =
         width_is (may_stand Nested) cs g0 limit (height_some (may_stand Nested) cs g0 hi (omega (arith, i.height, i.within, r.asks.limit_low)))
         ∙ first_is (least_height Nested g0 cs) limit (widest cs) (suc (widest cs)) hi (omega (arith, i.from, i.order, r.from, r.asks.is_widest)) (omega (arith, i.to, r.asks.to, r.asks.is_widest)) (omega (arith, i.height, i.within))
         (λ j l u. all_over j (omega (arith, r.asks.is_widest)) (omega arith)) in
-        (record { within = λ u. (sym k, i.height); over = λ u. absurd (omega (arith, i.to)) }, all_over)
+        record { within = λ u. (sym k, i.height); over = λ u. absurd (omega (arith, i.to)) }

@@ -1,78 +1,19 @@
--- The laws of the outward search, for any t: what starting, an offer, a turn left out and a new row do, and what is known at
--- the end.
+-- The laws of the outward search, for any t: what two offers, a turn, a turn left out, a new row and starting do, and what is
+-- known at the end.
 use Prim.Native.Nat.{ℕ, ◌+◌, ◌-◌, ◌*◌, ◌≤◌, ◌<◌, min}
-use mathlib.Core.Path.{◌≡◌, ap}
+use mathlib.Core.Path.{◌≡◌}
 use mathlib.Core.Logic.{◌⊎◌, inl, inr}
 use mathlib.Core.List.{List}
 use native.Mathlib.Omega.{arith}
-use lib.ListN.{length, get_or, set}
-use lib.Seq.{get_or-set_same, get_or-set_other}
+use lib.ListN.{get_or}
 use Rattle.terms.proofs.Order.{order}
 use Rattle.group_search.specs.Outward.{Under, Same, Adds, Fresh, LeastFound}
 
 pub same_trans : {t : ℕ → ℕ → ℕ} {m : ℕ} {e f g : List ℕ} {p q a p' q' a' p'' q'' a'' : ℕ} → Same t m e p q a f p' q' a' → Same t m f p' q' a' g p'' q'' a'' → Same t m e p q a g p'' q'' a''
 same_trans i j = record { on = λ b u. j.on b (i.on b u); back = λ b u. i.back b (j.back b u) }
 
-pub same_refl : {t : ℕ → ℕ → ℕ} {m : ℕ} {e : List ℕ} {p q a : ℕ} → Same t m e p q a e p q a
-same_refl = record { on = λ b u. u; back = λ b u. u }
-
--- After a store an entry is the new number, or what it was.
-pub stored : (es : List ℕ) (i v j : ℕ) → i < length es → ((j ≡ i) × (get_or (set es i v) j 0 ≡ v)) ⊎ (get_or (set es i v) j 0 ≡ get_or es j 0)
-stored es i v j h = go (order i j) (order j i)
-  where
-    go : (i ≤ j) ⊎ (j < i) → (j ≤ i) ⊎ (i < j) → ((j ≡ i) × (get_or (set es i v) j 0 ≡ v)) ⊎ (get_or (set es i v) j 0 ≡ get_or es j 0)
-    go (inl a) (inl b) = let z : j ≡ i = omega arith in inl (z, rw z (get_or-set_same es i v 0 h))
-    go (inr a) b = inr (get_or-set_other es i j v 0 (λ z. omega arith))
-    go (inl a) (inr b) = inr (get_or-set_other es i j v 0 (λ z. omega arith))
-
 module _ (t : ℕ → ℕ → ℕ) (m : ℕ) (few : m ≤ 64) where
-  -- An offer of a row to the entry (x, y), whose turn is still to come.
-  module _ (es : List ℕ) (room : 4225 ≤ length es) (p q end x y row : ℕ) (some : 0 < x) (ordered : x ≤ y) (more : y < m) (later : x * 65 + q ≤ p * 65 + y) where
-    abbrev offered : List ℕ
-    offered = set es (x * 65 + y) (min row (get_or es (x * 65 + y) 0))
-
-    here : get_or offered (x * 65 + y) 0 ≡ min row (get_or es (x * 65 + y) 0)
-    here = get_or-set_same es (x * 65 + y) (min row (get_or es (x * 65 + y) 0)) 0 (omega arith)
-
-    offer_on : (b : ℕ) → Under t m es p q end b → b ≤ row + t x y → Under t m offered p q end b
-    offer_on b i h = record {
-      found = i.found;
-      to_come = λ u v s o l r. go u v (i.to_come u v s o l r) l (stored es (x * 65 + y) (min row (get_or es (x * 65 + y) 0)) (u * 65 + v) (omega arith));
-    }
-      where
-        go : (u v : ℕ) → b ≤ get_or es (u * 65 + v) 0 + t u v → v < m → ((u * 65 + v ≡ x * 65 + y) × (get_or offered (u * 65 + v) 0 ≡ min row (get_or es (x * 65 + y) 0))) ⊎ (get_or offered (u * 65 + v) 0 ≡ get_or es (u * 65 + v) 0)
-            → b ≤ get_or offered (u * 65 + v) 0 + t u v
-        go u v k l (inr e) = omega arith
-        go u v k l (inl e) =
-            let a : u ≡ x = omega (arith, e.0) in
-            let c : v ≡ y = omega (arith, e.0) in
-            rw (a, c) (omega (arith, here, rw (a, c) at k))
-
-    offer_back : (b : ℕ) → Under t m offered p q end b → Under t m es p q end b
-    offer_back b i = record {
-      found = i.found;
-      to_come = λ u v s o l r. go u v (i.to_come u v s o l r) (stored es (x * 65 + y) (min row (get_or es (x * 65 + y) 0)) (u * 65 + v) (omega arith));
-    }
-      where
-        go : (u v : ℕ) → b ≤ get_or offered (u * 65 + v) 0 + t u v → ((u * 65 + v ≡ x * 65 + y) × (get_or offered (u * 65 + v) 0 ≡ min row (get_or es (x * 65 + y) 0))) ⊎ (get_or offered (u * 65 + v) 0 ≡ get_or es (u * 65 + v) 0)
-            → b ≤ get_or es (u * 65 + v) 0 + t u v
-        go u v k (inr e) = omega arith
-        go u v k (inl e) = omega (arith, e.1, ap (λ (i : ℕ). get_or es i 0) e.0)
-
-    offer_here : (b : ℕ) → Under t m offered p q end b → b ≤ row + t x y
-    offer_here b i = omega (arith, here, i.to_come x y some ordered more later)
-
-    pub adds_offer : Adds t m es end offered end p q (row + t x y)
-    adds_offer = record { on = offer_on; back = offer_back; here = offer_here }
-
-  -- A height that is found; what is no less than the height found already; two offers.
-  pub adds_found : (es : List ℕ) (p q end v : ℕ) → Adds t m es end es (min end v) p q v
-  adds_found es p q end v = record {
-    on = λ b i h. record { found = omega (arith, i.found); to_come = i.to_come };
-    back = λ b i. record { found = omega (arith, i.found); to_come = i.to_come };
-    here = λ b i. omega (arith, i.found);
-  }
-
+  -- What is no less than the height found already; two offers.
   pub adds_nothing : (es : List ℕ) (p q end v : ℕ) → end ≤ v → Adds t m es end es end p q v
   adds_nothing es p q end v h = record { on = λ b i l. i; back = λ b i. i; here = λ b i. omega (arith, i.found) }
 

@@ -1,16 +1,15 @@
 -- A whole search: the table at its start, and the least height at its end.
 use Prim.Native.Nat.{ℕ, ◌+◌, ◌-◌, ◌≤◌, ◌<◌, min, max}
-use mathlib.Core.Path.{◌≡◌, refl, sym, ap, ◌∙◌}
+use mathlib.Core.Path.{◌≡◌, refl, ap, ◌∙◌}
 use mathlib.Core.Logic.{◌⊎◌, inl, inr, ⊎_elim}
 use mathlib.Core.List.{List, []}
-use native.Mathlib.Nat.{eq-or-lt_of_le}
 use native.Mathlib.Omega.{arith}
-use mathlib.Core.Bool.{Bool, true, false, cond}
+use mathlib.Core.Bool.{true}
 use lib.ListN.{length, get_or, take}
 use lib.Seq.{take_all}
 use Rattle.terms.specs.declared.Component.{Component}
 use Rattle.terms.specs.declared.Kind.TheVariants.{Nested}
-use Rattle.terms.specs.Seams.{gap_at, barred_at, component_in, components_in}
+use Rattle.terms.specs.Seams.{gap_at, component_in, components_in}
 use Rattle.terms.proofs.Order.{order}
 use Rattle.terms.proofs.Tabulate.{tabulate-length}
 use Rattle.group.specs.Group.{none, unbarred, flat_height, fold_height, may_stand, way_height, least_height}
@@ -19,11 +18,12 @@ use Rattle.group.proofs.Indices.{corner}
 use Rattle.group.proofs.Bare.{rows_bare}
 use Rattle.group.proofs.Gaps.{gap_behind_lem, gap_behind_all}
 use Rattle.group.proofs.Ways.{Allowed, way_flat, way_fold, least_at, fold_point, may_fold, stands_allowed, some_way}
-use Rattle.group_table.specs.Inner.{Low, TopDone, SideDone}
+use Rattle.group_table.specs.Inner.{Low, TopDone}
 use Rattle.group_height.specs.Heights.{fold_rows}
 use Rattle.group_height.proofs.Barred.{rows_free, free_or_far}
 use Rattle.group_search.specs.Outward.{Fresh, LeastFound}
-use Rattle.group_search.specs.Inner.{Bordered, Ready, MoveAsks, Moved, ClearAsks, Cleared, SearchAsks, Searched}
+use Rattle.group_search.specs.declared.Run.{Run}
+use Rattle.group_search.specs.Inner.{RowsMoved, Cleared, SearchAsks, Searched}
 use Rattle.group_search.proofs.Outwards.{all_found}
 
 -- The borders.
@@ -31,15 +31,6 @@ module _ {hs es : List ℕ} (r : Low hs es) where
   pub side_asks : (fs : List ℕ) → length fs ≡ length es → TopDone hs fs 0 → Low hs fs × (get_or fs (length hs) 0 ≡ 0)
   side_asks fs e t =
       (record { few = r.few; low = r.low; room = omega (arith, r.room) }, t [] 0 (length hs) (omega arith) (omega arith) ∙ corner (component_in hs [] []) (length hs) 0 (length hs) (omega arith))
-
-  pub bordered : {e1 e2 : List ℕ} → 4225 ≤ length e2 → TopDone hs e1 0 → SideDone hs e1 e2 (length hs) → Bordered hs e2
-  bordered h t s = record {
-    few = r.few;
-    low = r.low;
-    room = h;
-    top = λ ws c y l. s.kept y l ∙ t ws c y (omega arith) l;
-    side = λ ws c x l. s.done ws c x l;
-  }
 
 -- Without a fold, and with one behind the first components: ways of a nested group.
 module _ (g0 : ℕ) (cs : List Component) (some : 0 < length cs) (free : unbarred cs ≡ true) (c : ℕ) where
@@ -62,45 +53,16 @@ module _ (g0 : ℕ) (cs : List Component) (some : 0 < length cs) (free : unbarre
       go p s l u (inl o) = omega (arith, way_flat g0 cs c p (omega arith))
       go p s l u (inr o) = omega (arith, way_fold g0 cs c p o, f p s o u)
 
+-- Where a search starts: no pair was let stand side by side, and none clashed.
+abbrev pub start_at : ℕ → Run
+start_at end = record { height = record { 0 = end }; fit = record { 0 = 0 }; clash = record { 0 = 4000000 } }
+
 module _ {g0 flat : ℕ} {hs ws gs es : List ℕ} {limit cap : ℕ} (r : SearchAsks g0 flat hs ws gs es limit cap) where
   abbrev cs : List Component
   cs = components_in hs ws gs
 
-  pub clear_asks : (both last : ℕ) → last ≡ gap_at gs (length gs - 1) → both ≡ max g0 last → ClearAsks gs es both
-  clear_asks both last l e = record {
-    some = omega (arith, r.asks.some, r.asks.seams_long);
-    few = omega (arith, r.asks.table.few, r.asks.seams_long);
-    room = r.asks.table.room;
-    both_low = omega (arith, r.asks.first_low, r.asks.gaps_low (length gs - 1));
-  }
-
   -- The table once its entries are cleared.
-  module _ {new : List ℕ} {both last : ℕ} (clear : Cleared gs es new both (length gs)) (long : length new ≡ length es) (is_last : last ≡ gap_at gs (length gs - 1)) (is-both : both ≡ max g0 last) where
-    rows_low : (x : ℕ) → fold_rows both gs x ≤ none
-    rows_low x = go (barred_at gs (x - 1))
-      where
-        go : (b : Bool) → cond b none (both + gap_at gs (x - 1)) ≤ none
-        go true = omega arith
-        go false = omega (arith, is-both, r.asks.first_low, r.asks.gaps_low (length gs - 1), r.asks.gaps_low (x - 1))
-
-    ready : Ready hs new
-    ready = record {
-      borders = record {
-        few = r.borders.few;
-        low = r.borders.low;
-        room = omega (arith, r.borders.room);
-        top = λ vs c y l. clear.top y (omega (arith, r.asks.seams_long)) ∙ r.borders.top vs c y l;
-        side = λ vs c x l. (rw r.asks.seams_long at (clear.side x)) ∙ r.borders.side vs c x l;
-      };
-      small = λ x y s o l. ⊎_elim
-          (λ (n : x ≡ y). rw (sym n) (omega (arith, clear.fold x s (omega (arith, r.asks.seams_long)), rows_low x)))
-          (λ (n : x < y). omega (arith, clear.far x y s (omega (arith, r.asks.seams_long)) n (omega (arith, r.asks.seams_long))))
-          (eq-or-lt_of_le o);
-    }
-
-    pub move_asks : MoveAsks hs ws new cap 0 4000000 × (1 ≤ length hs)
-    move_asks = (record { ready = ready; columns = r.asks.table.columns; fits = omega arith; clashes = omega (arith, r.cap_low) }, r.asks.some)
-
+  module _ {new : List ℕ} {both last : ℕ} (clear : Cleared gs es new both (length gs)) (is_last : last ≡ gap_at gs (length gs - 1)) (is-both : both ≡ max g0 last) where
     fresh : Fresh (length hs) (fold_rows both gs) new
     fresh = record {
       fold = λ x s l. clear.fold x s (omega (arith, r.asks.seams_long));
@@ -131,12 +93,12 @@ module _ {g0 flat : ℕ} {hs ws gs es : List ℕ} {limit cap : ℕ} (r : SearchA
         (free_or_far hs ws gs both p s (omega arith))) in
         omega (arith, no_more, no_less, f.from_start)
 
-    module _ {last-table : List ℕ} (end : ℕ) {end' fit clash : ℕ} (e : end ≡ min (limit + 1) flat) (i : Moved hs ws new last-table cap end 0 4000000 end' fit clash (length hs) (length hs) 1 (length hs)) where
-      pub searched : Searched g0 hs ws gs limit cap end' fit clash
+    module _ {last-table : List ℕ} {end : ℕ} {s : Run} (e : end ≡ min (limit + 1) flat) (i : RowsMoved hs ws new last-table cap (start_at end) s) where
+      pub searched : Searched g0 hs ws gs limit cap s
       searched = record {
         fits = i.fits;
         clashes = i.clashes;
         least = λ c l u.
-            least_is c end end' e
-            (all_found (entry hs ws c) (length hs) r.asks.table.few (fold_rows both gs) new end fresh (omega (arith, r.limit_low)) last-table end' (i.same c l u));
+            least_is c end s.height.0 e
+            (all_found (entry hs ws c) (length hs) r.asks.table.few (fold_rows both gs) new end fresh (omega (arith, r.limit_low)) last-table s.height.0 (i.same c l u));
       }

@@ -1,24 +1,25 @@
 -- A walk, an offer and a turn of the outward search, over plain lists.
 use Prim.Native.Nat.{ℕ, ◌+◌, ◌-◌, ◌*◌, ◌≤◌, ◌<◌, min, max}
-use mathlib.Core.Path.{◌≡◌, sym, ap, ◌∙◌}
+use mathlib.Core.Path.{◌≡◌, refl, sym, ap, ◌∙◌}
 use mathlib.Core.Logic.{◌⊎◌, inl, inr}
 use mathlib.Core.List.{List, [], ◌∷◌}
 use native.Mathlib.Nat.{zero-add}
 use native.Mathlib.Omega.{arith}
-use lib.ListN.{length, get_or, set, length-set}
-use lib.Seq.{get_or-set_other}
+use lib.ListN.{length, get_or}
 use Rattle.terms.specs.declared.Component.{Component}
 use Rattle.terms.specs.Seams.{component_in}
 use Rattle.group.specs.Rows.{ht, wd, tall, rows}
 use Rattle.group.specs.Group.{left_side, right_side}
-use Rattle.group.specs.Table.{bare, entry, Columns}
+use Rattle.group.specs.Table.{bare, entry}
 use Rattle.terms.proofs.Order.{order}
 use Rattle.group.proofs.Chains.{rows_left, rows_right, rows_clash}
 use Rattle.group.proofs.Indices.{at_top, at_side, at_left, at_right, at_clash, at_le, rows_no_left, rows_only_left}
 use Rattle.group.proofs.Falls.{rows_left_side, rows_right_side}
 use Rattle.terms.proofs.Tabulate.{tabulate_end}
-use Rattle.group_search.specs.Inner.{Ready, WalkAsks, Walked, Stopped, OfferAsks, Offered, SettleAsks, Settled, MoveAsks, Moved, TurnAsks}
-use Rattle.group_search.proofs.Outwards.{stored, adds_offer, adds_found, adds_nothing, adds_both, turn_over, same_trans, same_refl, next_row}
+use Rattle.group_search.specs.declared.Run.{Run}
+use Rattle.group_search.specs.declared.Stop.{Stop}
+use Rattle.group_search.specs.Inner.{WalkAsks, rest_of, Walked, Stopped, OfferAsks, Offered, SettleAsks, Settled, Moved, TurnAsks}
+use Rattle.group_search.proofs.Outwards.{adds_nothing, adds_both, turn_over, same_trans, next_row}
 
 -- Rows from row k on.
 abbrev Shifts : ℕ → ℕ → List Component → List Component → Type 0
@@ -45,7 +46,11 @@ shifts cap k (x ∷ l) (y ∷ r) a b = shift_step cap k x l y r (shifts cap k l 
 from_row : (cap k : ℕ) (l r : List Component) → rows cap k k l r ≡ k + rows cap 0 0 l r
 from_row cap k l r = let z : k + 0 ≡ k = omega arith in rw z at (shifts cap k l r 0 0)
 
-pub walk_start : {hs ws : List ℕ} {p q row : ℕ} (cap fit : ℕ) → WalkAsks hs ws p q row → Walked hs ws p q row cap fit p q row row fit
+-- A walk that stands at (x, y), with rows a and b.
+abbrev pub stop_at : ℕ → ℕ → ℕ → ℕ → ℕ → Stop
+stop_at x y a b fit = record { left = x; right = y; a = a; b = b; fit = record { 0 = fit } }
+
+pub walk_start : {hs ws : List ℕ} {p q row : ℕ} (cap fit : ℕ) → WalkAsks hs ws p q row → Walked hs ws p q row cap fit (stop_at p q row row fit)
 walk_start {hs} {ws} {p} {q} {row} cap fit r = record {
   left_in = omega arith;
   right_from = omega arith;
@@ -57,9 +62,9 @@ walk_start {hs} {ws} {p} {q} {row} cap fit r = record {
   same = λ c h. from_row c row (left_side p (bare hs ws)) (right_side q (bare hs ws));
 }
 
-module _ {hs ws : List ℕ} {p q row cap fit x y a b fit' : ℕ} (r : WalkAsks hs ws p q row) (i : Walked hs ws p q row cap fit x y a b fit') (some : 0 < x) (more : y < length hs) (fits : get_or ws (x - 1) 0 + get_or ws y 0 ≤ cap)
+module _ {hs ws : List ℕ} {p q row cap fit x y a b fit' : ℕ} (r : WalkAsks hs ws p q row) (i : Walked hs ws p q row cap fit (stop_at x y a b fit')) (some : 0 < x) (more : y < length hs) (fits : get_or ws (x - 1) 0 + get_or ws y 0 ≤ cap)
     (f : ℕ) (is-fit : f ≡ max fit' (get_or ws (x - 1) 0 + get_or ws y 0)) where
-  pub to_left : (a' : ℕ) → a' ≡ a + get_or hs (x - 1) 0 → a' ≤ b + get_or hs y 0 → Walked hs ws p q row cap fit (x - 1) y a' b f
+  pub to_left : (a' : ℕ) → a' ≡ a + get_or hs (x - 1) 0 → a' ≤ b + get_or hs y 0 → Walked hs ws p q row cap fit (stop_at (x - 1) y a' b f)
   to_left a' e o = record {
     left_in = omega (arith, i.left_in);
     right_from = i.right_from;
@@ -71,7 +76,7 @@ module _ {hs ws : List ℕ} {p q row cap fit x y a b fit' : ℕ} (r : WalkAsks h
     same = λ c h. rw e (sym (at_left (component_in hs ws []) (length hs) c a b x y some (omega (arith, i.left_in, r.within)) more (omega arith) (omega arith)) ∙ i.same c (omega arith));
   }
 
-  pub to_right : (b' : ℕ) → b' ≡ b + get_or hs y 0 → b' < a + get_or hs (x - 1) 0 → Walked hs ws p q row cap fit x (y + 1) a b' f
+  pub to_right : (b' : ℕ) → b' ≡ b + get_or hs y 0 → b' < a + get_or hs (x - 1) 0 → Walked hs ws p q row cap fit (stop_at x (y + 1) a b' f)
   to_right b' e o = record {
     left_in = i.left_in;
     right_from = omega (arith, i.right_from);
@@ -91,72 +96,40 @@ module _ {hs es : List ℕ} {x y row : ℕ} (r : OfferAsks hs es x y row) where
   pub side_low : y ≡ length hs → get_or es (x * 65 + y) 0 ≤ 512000
   side_low z = rw (z, r.ready.borders.side [] 0 x (omega (arith, r.ordered, r.within))) (omega (arith, at_le (component_in hs [] []) (length hs) r.ready.borders.low 0 x (length hs) (omega (arith, r.ordered, r.within)) (omega arith), r.ready.borders.few, r.ordered, r.within))
 
-  pub offer_top : (end end' : ℕ) → x ≡ 0 → end' ≡ min end (row + get_or es y 0) → Offered hs es es x y row end end'
-  offer_top end end' z e = record {
-    ready = r.ready;
-    adds = λ ws c p q l. rw (e, r.ready.borders.top ws c y r.within, z) (adds_found (entry hs ws c) (length hs) r.ready.borders.few es p q end (row + entry hs ws c 0 y));
-  }
-
-  pub offer_side : (end end' : ℕ) → y ≡ length hs → end' ≡ min end (row + get_or es (x * 65 + y) 0) → Offered hs es es x y row end end'
-  offer_side end end' z e = record {
-    ready = r.ready;
-    adds = λ ws c p q l. rw (e, z, r.ready.borders.side ws c x (omega (arith, r.ordered, r.within))) (adds_found (entry hs ws c) (length hs) r.ready.borders.few es p q end (row + entry hs ws c x (length hs)));
-  }
-
-  module _ (v : ℕ) (e : v ≡ min row (get_or es (x * 65 + y) 0)) (some : 0 < x) (more : y < length hs) where
-    ready-set : Ready hs (set es (x * 65 + y) v)
-    ready-set = record {
-      borders = record {
-        few = r.ready.borders.few;
-        low = r.ready.borders.low;
-        room = simp length-set r.ready.borders.room;
-        top = λ ws c u l. get_or-set_other es (x * 65 + y) u v 0 (λ z. omega (arith, r.ready.borders.few)) ∙ r.ready.borders.top ws c u l;
-        side = λ ws c u l. get_or-set_other es (x * 65 + y) (u * 65 + length hs) v 0 (λ z. omega (arith, r.ready.borders.few)) ∙ r.ready.borders.side ws c u l;
-      };
-      small = λ u w s o l. go u w (r.ready.small u w s o l) (r.ready.small x y some r.ordered more) (stored es (x * 65 + y) v (u * 65 + w) (omega (arith, r.ready.borders.few, r.ready.borders.room, r.ordered)));
-    }
-      where
-        go : (u w : ℕ) → get_or es (u * 65 + w) 0 ≤ 4000000 → get_or es (x * 65 + y) 0 ≤ 4000000 → ((u * 65 + w ≡ x * 65 + y) × (get_or (set es (x * 65 + y) v) (u * 65 + w) 0 ≡ v)) ⊎ (get_or (set es (x * 65 + y) v) (u * 65 + w) 0 ≡ get_or es (u * 65 + w) 0)
-            → get_or (set es (x * 65 + y) v) (u * 65 + w) 0 ≤ 4000000
-        go u w h k (inl z) = omega (arith, z.1)
-        go u w h k (inr z) = omega arith
-
-    pub offer_entry : (end : ℕ) → Offered hs es (set es (x * 65 + y) v) x y row end end
-    offer_entry end = record {
-      ready = ready-set;
-      adds = λ ws c p q l. rw e (adds_offer (entry hs ws c) (length hs) r.ready.borders.few es r.ready.borders.room p q end x y row some r.ordered more (l some more));
-    }
-
 -- The end of a walk.
-module _ {hs ws es : List ℕ} {x y a b : ℕ} (r : SettleAsks hs ws es x y a b) (end clash : ℕ) where
-  pub settle_top : {new : List ℕ} {end' : ℕ} → x ≡ 0 → Offered hs es new x y b end end' → Settled hs ws es new x y a b end clash end' clash
-  settle_top {new} {end'} z o = record {
+module _ {hs ws es : List ℕ} {t : Stop} (r : SettleAsks hs ws es t) (s : Run) where
+  pub settle_top : {new : List ℕ} {end : ℕ} → t.left ≡ 0 → Offered hs es new t.left t.right t.b s.height.0 end → Settled hs ws es new t s (record s { height = record { 0 = end }; fit = t.fit })
+  settle_top {new} {end} z o = record {
     ready = o.ready;
-    fewer = omega arith;
-    clashes = λ cap h s. h;
-    adds = λ c p q h l u.
-        let k : rows c a b (left_side x (bare hs ws)) (right_side y (bare hs ws)) ≡ b + entry hs ws c x y = rw z (at_top (component_in hs ws []) (length hs) c a b 0 y) in
-        rw k (o.adds ws c p q (λ s v. absurd (omega arith)));
-  }
-
-  pub settle_side : {new : List ℕ} {end' : ℕ} → 0 < x → y ≡ length hs → Offered hs es new x y a end end' → Settled hs ws es new x y a b end clash end' clash
-  settle_side {new} {end'} s z o = record {
-    ready = o.ready;
+    fit_value = refl;
     fewer = omega arith;
     clashes = λ cap h v. h;
     adds = λ c p q h l u.
-        let k : rows c a b (left_side x (bare hs ws)) (right_side y (bare hs ws)) ≡ a + entry hs ws c x y = at_side (component_in hs ws []) (length hs) c a b x y s (omega (arith, r.ordered, r.within)) (omega arith) in
+        let k : rest_of hs ws c t ≡ t.b + entry hs ws c t.left t.right = rw z (at_top (component_in hs ws []) (length hs) c t.a t.b 0 t.right) in
         rw k (o.adds ws c p q (λ s v. absurd (omega arith)));
   }
 
-  pub settle_clash : {mid new : List ℕ} {end' end'' a' b' : ℕ} (clash' : ℕ) → 0 < x → y < length hs → a' ≡ a + get_or hs (x - 1) 0 → b' ≡ b + get_or hs y 0 → clash' ≡ min clash (get_or ws (x - 1) 0 + get_or ws y 0)
-      → Offered hs es mid (x - 1) y a' end end' → Offered hs mid new x (y + 1) b' end' end'' → Settled hs ws es new x y a b end clash end'' clash'
-  settle_clash {mid} {new} {end'} {end''} {a'} {b'} clash' s m ea eb ec o o' = record {
-    ready = o'.ready;
+  pub settle_side : {new : List ℕ} {end : ℕ} → 0 < t.left → t.right ≡ length hs → Offered hs es new t.left t.right t.a s.height.0 end → Settled hs ws es new t s (record s { height = record { 0 = end }; fit = t.fit })
+  settle_side {new} {end} g z o = record {
+    ready = o.ready;
+    fit_value = refl;
     fewer = omega arith;
-    clashes = λ cap h v. omega (arith, v s m);
+    clashes = λ cap h v. h;
     adds = λ c p q h l u.
-        let k : rows c a b (left_side x (bare hs ws)) (right_side y (bare hs ws)) ≡ min (a' + entry hs ws c (x - 1) y) (b' + entry hs ws c x (y + 1)) = rw (ea, eb) (at_clash (component_in hs ws []) (length hs) c a b x y s (omega (arith, r.ordered)) m (omega arith)) in
+        let k : rest_of hs ws c t ≡ t.a + entry hs ws c t.left t.right = at_side (component_in hs ws []) (length hs) c t.a t.b t.left t.right g (omega (arith, r.ordered, r.within)) (omega arith) in
+        rw k (o.adds ws c p q (λ s v. absurd (omega arith)));
+  }
+
+  pub settle_clash : {mid new : List ℕ} {end end' a' b' : ℕ} (clash : ℕ) → 0 < t.left → t.right < length hs → a' ≡ t.a + get_or hs (t.left - 1) 0 → b' ≡ t.b + get_or hs t.right 0
+      → clash ≡ min s.clash.0 (get_or ws (t.left - 1) 0 + get_or ws t.right 0) → Offered hs es mid (t.left - 1) t.right a' s.height.0 end → Offered hs mid new t.left (t.right + 1) b' end end'
+      → Settled hs ws es new t s (record { height = record { 0 = end' }; fit = t.fit; clash = record { 0 = clash } })
+  settle_clash {mid} {new} {end} {end'} {a'} {b'} clash g m ea eb ec o o' = record {
+    ready = o'.ready;
+    fit_value = refl;
+    fewer = omega arith;
+    clashes = λ cap h v. omega (arith, v g m);
+    adds = λ c p q h l u.
+        let k : rest_of hs ws c t ≡ min (a' + entry hs ws c (t.left - 1) t.right) (b' + entry hs ws c t.left (t.right + 1)) = rw (ea, eb) (at_clash (component_in hs ws []) (length hs) c t.a t.b t.left t.right g (omega (arith, r.ordered)) m (omega arith)) in
         rw k (adds_both (entry hs ws c) (length hs) r.ready.borders.few (o.adds ws c p q (λ s v. omega arith)) (o'.adds ws c p q (λ s v. omega arith)));
   }
 
@@ -172,7 +145,7 @@ entry_right hs ws c p q =
     (rows_right_side c (left_side p (bare hs ws)) (right_side q (bare hs ws)))
 
 -- A turn.
-module _ {hs ws es : List ℕ} {cap fit clash p q : ℕ} (r : TurnAsks hs ws es cap fit clash p q) where
+module _ {hs ws es : List ℕ} {cap : ℕ} {s : Run} {p q : ℕ} (r : TurnAsks hs ws es cap s p q) where
   pub row_small : get_or es (p * 65 + q) 0 ≤ 4000000
   row_small = r.asks.ready.small p q r.some r.ordered r.more
 
@@ -183,52 +156,33 @@ module _ {hs ws es : List ℕ} {cap fit clash p q : ℕ} (r : TurnAsks hs ws es 
   top_small = rw (r.asks.ready.borders.top [] 0 q (omega (arith, r.more))) (omega (arith, at_le (component_in hs [] []) (length hs) r.asks.ready.borders.low 0 0 q (omega arith) (omega (arith, r.more)), r.asks.ready.borders.few))
 
   -- It cannot get under the height found.
-  pub left_out : (end : ℕ) → end ≤ get_or es (p * 65 + q) 0 + max (get_or es (p * 65 + length hs) 0) (get_or es q 0) → Moved hs ws es es cap end fit clash end fit clash p q p (q + 1)
-  left_out end h = record {
+  pub left_out : s.height.0 ≤ get_or es (p * 65 + q) 0 + max (get_or es (p * 65 + length hs) 0) (get_or es q 0) → Moved hs ws es es cap s s p q p (q + 1)
+  left_out h = record {
     ready = r.asks.ready;
     more_fits = omega arith;
     fits = r.asks.fits;
     fewer = omega arith;
     clashes = r.asks.clashes;
-    same = λ c l u. turn_over (entry hs ws c) (length hs) r.asks.ready.borders.few es p q end r.some r.ordered r.more es end
-        (adds_nothing (entry hs ws c) (length hs) r.asks.ready.borders.few es p (q + 1) end (get_or es (p * 65 + q) 0 + entry hs ws c p q)
+    same = λ c l u. turn_over (entry hs ws c) (length hs) r.asks.ready.borders.few es p q s.height.0 r.some r.ordered r.more es s.height.0
+        (adds_nothing (entry hs ws c) (length hs) r.asks.ready.borders.few es p (q + 1) s.height.0 (get_or es (p * 65 + q) 0 + entry hs ws c p q)
         (omega (arith, entry_left hs ws c p q, entry_right hs ws c p q, r.asks.ready.borders.top ws c q (omega (arith, r.more)), r.asks.ready.borders.side ws c p (omega (arith, r.ordered, r.more)))));
   }
 
-  pub walk_asks : (row : ℕ) → row ≡ get_or es (p * 65 + q) 0 → WalkAsks hs ws p q row
-  walk_asks row e = record { columns = r.asks.columns; few = r.asks.ready.borders.few; within = omega (arith, r.ordered, r.more); more = omega (arith, r.more); row_low = omega (arith, row_small) }
-
-  module _ {x y a b fit' : ℕ} (row : ℕ) (e : row ≡ get_or es (p * 65 + q) 0) (i : Walked hs ws p q row cap fit x y a b fit') where
-    pub settle_asks : SettleAsks hs ws es x y a b
-    settle_asks = record {
-      ready = r.asks.ready;
-      columns = r.asks.columns;
-      ordered = omega (arith, r.ordered, i.left_in, i.right_from);
-      within = i.right_in;
-      left_low = omega (arith, i.left_low, row_small, r.asks.ready.borders.few, r.ordered, r.more);
-      right_low = omega (arith, i.right_low, i.right_in, row_small, r.asks.ready.borders.few);
-    }
-
-    pub taken : {new : List ℕ} {end end' clash' : ℕ} (f : ℕ) → f ≡ fit' → Stopped hs ws cap x y → Settled hs ws es new x y a b end clash end' clash' → Moved hs ws es new cap end fit clash end' f clash' p q p (q + 1)
-    taken {new} {end} {end'} {clash'} f k s d = rw k record {
+  module _ {t : Stop} (row : ℕ) (e : row ≡ get_or es (p * 65 + q) 0) (i : Walked hs ws p q row cap s.fit.0 t) where
+    pub taken : {new : List ℕ} {s' : Run} → Stopped hs ws cap t.left t.right → Settled hs ws es new t s s' → Moved hs ws es new cap s s' p q p (q + 1)
+    taken {new} {s'} k d = record {
       ready = d.ready;
-      more_fits = i.more_fits;
-      fits = i.fits r.asks.fits;
+      more_fits = omega (arith, i.more_fits, d.fit_value);
+      fits = omega (arith, i.fits r.asks.fits, d.fit_value);
       fewer = d.fewer;
-      clashes = d.clashes cap r.asks.clashes s;
-      same = λ c l u. turn_over (entry hs ws c) (length hs) r.asks.ready.borders.few es p q end r.some r.ordered r.more new end'
-          (rw (i.same c l, e) at (d.adds c p (q + 1) u i.left_in (omega (arith, i.right_from))));
+      clashes = d.clashes cap r.asks.clashes k;
+      same = λ c l u. turn_over (entry hs ws c) (length hs) r.asks.ready.borders.few es p q s.height.0 r.some r.ordered r.more new s'.height.0
+          (rw (i.same c (omega (arith, d.fit_value)), e) at (d.adds c p (q + 1) u i.left_in (omega (arith, i.right_from))));
     }
 
 -- Turns one after the other.
-pub move_none : {hs ws es : List ℕ} {cap fit clash : ℕ} (end p q : ℕ) → MoveAsks hs ws es cap fit clash → Moved hs ws es es cap end fit clash end fit clash p q p q
-move_none end p q r = record { ready = r.ready; more_fits = omega arith; fits = r.fits; fewer = omega arith; clashes = r.clashes; same = λ c l u. same_refl }
-
-module _ {hs ws old mid : List ℕ} {cap end fit clash end' fit' clash' p q p' q' : ℕ} (i : Moved hs ws old mid cap end fit clash end' fit' clash' p q p' q') where
-  pub moved_asks : Columns hs ws → MoveAsks hs ws mid cap fit' clash'
-  moved_asks g = record { ready = i.ready; columns = g; fits = i.fits; clashes = i.clashes }
-
-  pub move_on : {new : List ℕ} {end'' fit'' clash'' p'' q'' : ℕ} → Moved hs ws mid new cap end' fit' clash' end'' fit'' clash'' p' q' p'' q'' → Moved hs ws old new cap end fit clash end'' fit'' clash'' p q p'' q''
+module _ {hs ws old mid : List ℕ} {cap : ℕ} {s s' : Run} {p q p' q' : ℕ} (i : Moved hs ws old mid cap s s' p q p' q') where
+  pub move_on : {new : List ℕ} {s'' : Run} {p'' q'' : ℕ} → Moved hs ws mid new cap s' s'' p' q' p'' q'' → Moved hs ws old new cap s s'' p q p'' q''
   move_on j = record {
     ready = j.ready;
     more_fits = omega (arith, i.more_fits, j.more_fits);
@@ -238,13 +192,13 @@ module _ {hs ws old mid : List ℕ} {cap end fit clash end' fit' clash' p q p' q
     same = λ c l u. same_trans (i.same c (omega (arith, j.more_fits)) (omega (arith, j.fewer))) (j.same c l u);
   }
 
-pub move_row : {hs ws old es : List ℕ} {cap end fit clash end' fit' clash' p q p' : ℕ} → 0 < p' → p' ≤ length hs → Moved hs ws old es cap end fit clash end' fit' clash' p q p' (length hs)
-    → Moved hs ws old es cap end fit clash end' fit' clash' p q (p' - 1) (p' - 1)
-move_row {hs} {ws} {old} {es} {cap} {end} {fit} {clash} {end'} {fit'} {clash'} {p} {q} {p'} s l i = record {
+pub move_row : {hs ws old es : List ℕ} {cap : ℕ} {s s' : Run} {p q p' : ℕ} → 0 < p' → p' ≤ length hs → Moved hs ws old es cap s s' p q p' (length hs)
+    → Moved hs ws old es cap s s' p q (p' - 1) (p' - 1)
+move_row {hs} {ws} {old} {es} {cap} {s} {s'} {p} {q} {p'} g l i = record {
   ready = i.ready;
   more_fits = i.more_fits;
   fits = i.fits;
   fewer = i.fewer;
   clashes = i.clashes;
-  same = λ c h u. same_trans (i.same c h u) (next_row (entry hs ws c) (length hs) i.ready.borders.few es p' end' s l);
+  same = λ c h u. same_trans (i.same c h u) (next_row (entry hs ws c) (length hs) i.ready.borders.few es p' s'.height.0 g l);
 }

@@ -8,6 +8,8 @@ use Rattle.group.specs.Rows.{rows}
 use Rattle.group.specs.Group.{none, left_side, right_side, flat_height, least_height}
 use Rattle.group.specs.Table.{bare, entry, most_entry, Columns}
 use Rattle.group_height.specs.Heights.{fold_rows, HeightAsks}
+use Rattle.group_search.specs.declared.Run.{Run}
+use Rattle.group_search.specs.declared.Stop.{Stop}
 use Rattle.group_search.specs.Outward.{Same, Adds}
 
 -- The borders of a table hold what is left where one side is used up, for all widths and every cap.
@@ -31,16 +33,20 @@ pub record WalkAsks (hs ws : List ℕ) (p q row : ℕ) : Type 0 where
   pub more : q ≤ length hs
   pub row_low : row ≤ none
 
--- It came to (x, y), with rows a on the left and b on the right, the same way under every cap that is at least `fit`.
-pub record Walked (hs ws : List ℕ) (p q row cap fit x y a b fit' : ℕ) : Type 0 where
-  pub left_in : x ≤ p
-  pub right_from : q ≤ y
-  pub right_in : y ≤ length hs
-  pub left_low : a + most_size * x ≤ row + most_size * p
-  pub right_low : b + most_size * q ≤ row + most_size * y
-  pub more_fits : fit ≤ fit'
-  pub fits : fit ≤ cap → fit' ≤ cap
-  pub same : (c : ℕ) → fit' ≤ c → rows c a b (left_side x (bare hs ws)) (right_side y (bare hs ws)) ≡ row + entry hs ws c p q
+-- The rows that the two sides take from a stop on.
+abbrev pub rest_of : List ℕ → List ℕ → ℕ → Stop → ℕ
+rest_of hs ws cap t = rows cap t.a t.b (left_side t.left (bare hs ws)) (right_side t.right (bare hs ws))
+
+-- It came to the stop the same way under every cap that is at least the stop's `fit`.
+pub record Walked (hs ws : List ℕ) (p q row cap fit : ℕ) (t : Stop) : Type 0 where
+  pub left_in : t.left ≤ p
+  pub right_from : q ≤ t.right
+  pub right_in : t.right ≤ length hs
+  pub left_low : t.a + most_size * t.left ≤ row + most_size * p
+  pub right_low : t.b + most_size * q ≤ row + most_size * t.right
+  pub more_fits : fit ≤ t.fit.0
+  pub fits : fit ≤ cap → t.fit.0 ≤ cap
+  pub same : (c : ℕ) → t.fit.0 ≤ c → rest_of hs ws c t ≡ row + entry hs ws c p q
 
 -- A side is used up, or two clash.
 abbrev pub Stopped : List ℕ → List ℕ → ℕ → ℕ → ℕ → Type 0
@@ -58,47 +64,59 @@ pub record Offered (hs old new : List ℕ) (x y row end end' : ℕ) : Type 0 whe
   pub adds : (ws : List ℕ) (c p q : ℕ) → (0 < x → y < length hs → x * stride + q ≤ p * stride + y)
       → Adds (entry hs ws c) (length hs) old end new end' p q (row + entry hs ws c x y)
 
--- The end of a walk at (x, y), with rows a and b.
-pub record SettleAsks (hs ws es : List ℕ) (x y a b : ℕ) : Type 0 where
+-- The end of a walk, at the stop that it came to.
+pub record SettleAsks (hs ws es : List ℕ) (t : Stop) : Type 0 where
   pub ready : Ready hs es
   pub columns : Columns hs ws
-  pub ordered : x ≤ y
-  pub within : y ≤ length hs
-  pub left_low : a ≤ none + most_entry
-  pub right_low : b ≤ none + most_entry
+  pub ordered : t.left ≤ t.right
+  pub within : t.right ≤ length hs
+  pub left_low : t.a ≤ none + most_entry
+  pub right_low : t.b ≤ none + most_entry
 
-pub record Settled (hs ws old new : List ℕ) (x y a b end clash end' clash' : ℕ) : Type 0 where
+pub record Settled (hs ws old new : List ℕ) (t : Stop) (s s' : Run) : Type 0 where
   pub ready : Ready hs new
-  pub fewer : clash' ≤ clash
-  pub clashes : (cap : ℕ) → cap < clash → Stopped hs ws cap x y → cap < clash'
-  pub adds : (c p q : ℕ) → c < clash' → x ≤ p → q ≤ y + 1
-      → Adds (entry hs ws c) (length hs) old end new end' p q (rows c a b (left_side x (bare hs ws)) (right_side y (bare hs ws)))
+  pub fit_value : s'.fit.0 ≡ t.fit.0
+  pub fewer : s'.clash.0 ≤ s.clash.0
+  pub clashes : (cap : ℕ) → cap < s.clash.0 → Stopped hs ws cap t.left t.right → cap < s'.clash.0
+  pub adds : (c p q : ℕ) → c < s'.clash.0 → t.left ≤ p → q ≤ t.right + 1
+      → Adds (entry hs ws c) (length hs) old s.height.0 new s'.height.0 p q (rest_of hs ws c t)
 
 -- Some turns of the search, from (p, q) to (p', q'): a cap that is at least `fit` and under `clash` makes no difference.
-pub record MoveAsks (hs ws es : List ℕ) (cap fit clash : ℕ) : Type 0 where
+pub record MoveAsks (hs ws es : List ℕ) (cap : ℕ) (s : Run) : Type 0 where
   pub ready : Ready hs es
   pub columns : Columns hs ws
-  pub fits : fit ≤ cap
-  pub clashes : cap < clash
+  pub fits : s.fit.0 ≤ cap
+  pub clashes : cap < s.clash.0
 
-pub record Moved (hs ws old new : List ℕ) (cap end fit clash end' fit' clash' p q p' q' : ℕ) : Type 0 where
+pub record Moved (hs ws old new : List ℕ) (cap : ℕ) (s s' : Run) (p q p' q' : ℕ) : Type 0 where
   pub ready : Ready hs new
-  pub more_fits : fit ≤ fit'
-  pub fits : fit' ≤ cap
-  pub fewer : clash' ≤ clash
-  pub clashes : cap < clash'
-  pub same : (c : ℕ) → fit' ≤ c → c < clash' → Same (entry hs ws c) (length hs) old p q end new p' q' end'
+  pub more_fits : s.fit.0 ≤ s'.fit.0
+  pub fits : s'.fit.0 ≤ cap
+  pub fewer : s'.clash.0 ≤ s.clash.0
+  pub clashes : cap < s'.clash.0
+  pub same : (c : ℕ) → s'.fit.0 ≤ c → c < s'.clash.0 → Same (entry hs ws c) (length hs) old p q s.height.0 new p' q' s'.height.0
 
-pub record TurnAsks (hs ws es : List ℕ) (cap fit clash p q : ℕ) : Type 0 where
-  pub asks : MoveAsks hs ws es cap fit clash
+pub record TurnAsks (hs ws es : List ℕ) (cap : ℕ) (s : Run) (p q : ℕ) : Type 0 where
+  pub asks : MoveAsks hs ws es cap s
   pub some : 0 < p
   pub ordered : p ≤ q
   pub more : q < length hs
 
-pub record RowAsks (hs ws es : List ℕ) (cap fit clash p : ℕ) : Type 0 where
-  pub asks : MoveAsks hs ws es cap fit clash
+pub record RowAsks (hs ws es : List ℕ) (cap : ℕ) (s : Run) (p : ℕ) : Type 0 where
+  pub asks : MoveAsks hs ws es cap s
   pub some : 0 < p
   pub more : p < length hs
+
+pub record RowsAsk (hs ws es : List ℕ) (cap : ℕ) (s : Run) : Type 0 where
+  pub asks : MoveAsks hs ws es cap s
+  pub some : 1 ≤ length hs
+
+-- The turns of row p, and those of all rows.
+abbrev pub RowMoved : List ℕ → List ℕ → List ℕ → List ℕ → ℕ → Run → Run → ℕ → Type 0
+RowMoved hs ws old new cap s s' p = Moved hs ws old new cap s s' p p p (length hs)
+
+abbrev pub RowsMoved : List ℕ → List ℕ → List ℕ → List ℕ → ℕ → Run → Run → Type 0
+RowsMoved hs ws old new cap s s' = Moved hs ws old new cap s s' (length hs) (length hs) 1 (length hs)
 
 -- Clearing the row p of the table: its entries are fresh, and nothing else has changed.
 pub record ClearRowAsks (m : ℕ) (es : List ℕ) (p : ℕ) : Type 0 where
@@ -136,10 +154,10 @@ pub record SearchAsks (g0 flat : ℕ) (hs ws gs es : List ℕ) (limit cap : ℕ)
 
 -- The least height if it is within the limit, and else one more than the limit; the same for every cap that is at least `fit`
 -- and under `clash`.
-pub record Searched (g0 : ℕ) (hs ws gs : List ℕ) (limit cap height fit clash : ℕ) : Type 0 where
-  pub fits : fit ≤ cap
-  pub clashes : cap < clash
-  pub least : (c : ℕ) → fit ≤ c → c < clash → height ≡ min (limit + 1) (least_height Nested g0 (components_in hs ws gs) c)
+pub record Searched (g0 : ℕ) (hs ws gs : List ℕ) (limit cap : ℕ) (s : Run) : Type 0 where
+  pub fits : s.fit.0 ≤ cap
+  pub clashes : cap < s.clash.0
+  pub least : (c : ℕ) → s.fit.0 ≤ c → c < s.clash.0 → s.height.0 ≡ min (limit + 1) (least_height Nested g0 (components_in hs ws gs) c)
 
 -- A cap from which the halving may start: if it is not the greatest one, the group keeps the limit without a fold.
 pub record FirstCap (flat limit low cap top : ℕ) : Type 0 where

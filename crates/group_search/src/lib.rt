@@ -2,10 +2,11 @@
 // for all folds.
 #![tactic(auto)]
 
-ghost use Rattle.std.specs.Prelude.{◌≡◌, ◌+◌, ◌≤◌, ◌<◌, length};
+ghost use Rattle.std.specs.Prelude.{◌≡◌, ◌+◌, ◌≤◌, length};
+ghost use Rattle.terms.specs.Pieces.{heights_in, seams_in, columns, sizes};
 ghost use Rattle.group_table.specs.Inner.{Low};
 ghost use Rattle.group_search.specs.Inner.{Bordered, WalkAsks, Walked, Stopped, OfferAsks, Offered};
-ghost use Rattle.group_search.specs.Inner.{SettleAsks, Settled, MoveAsks, Moved, TurnAsks, RowAsks};
+ghost use Rattle.group_search.specs.Inner.{SettleAsks, Settled, TurnAsks, Moved, RowAsks, RowMoved, RowsAsk, RowsMoved};
 ghost use Rattle.group_search.specs.Inner.{ClearRowAsks, RowCleared, ClearAsks, Cleared};
 ghost use Rattle.group_search.specs.Inner.{SearchAsks, Searched, FirstCap};
 ghost use Rattle.group_search.specs.Widths.{Narrow, Over, LowAsks};
@@ -13,11 +14,11 @@ ghost use Rattle.group_search.specs.Widths.{Narrow, Over, LowAsks};
 use group::NONE;
 use group_height::fold_rows;
 use group_table::beside;
-use numbers::{STRIDE, cell, gap, get, larger, lesser};
-use terms::{Rows, Slices};
+use numbers::{STRIDE, cell, gap, height, width};
+use terms::{Piece, Rows, Slices};
 
 // The width of a group, its height there, and a width below which every cap is too narrow.
-#[derive(Clone, Copy)]
+#[derive(Clone, Copy, Debug, PartialEq, Eq)]
 pub struct Fit {
     pub width: Slices,
     pub height: Rows,
@@ -25,7 +26,7 @@ pub struct Fit {
 }
 
 // A height, and the caps for which it is the same: from `fit` to below `clash`.
-#[derive(Clone, Copy)]
+#[derive(Clone, Copy, Debug, PartialEq, Eq)]
 struct Run {
     height: Rows,
     fit: Slices,
@@ -33,7 +34,7 @@ struct Run {
 }
 
 // Where a walk stops: the first `left` components are still to be placed from row a on, those from `right` on from row b on.
-#[derive(Clone, Copy)]
+#[derive(Clone, Copy, Debug, PartialEq, Eq)]
 struct Stop {
     left: usize,
     right: usize,
@@ -43,21 +44,20 @@ struct Stop {
 }
 
 // Both sides are packed until two components clash or a side is used up.
-fn walk(h: &[u16], w: &[u16], p: usize, q: usize, row: u32, cap: Slices, known: Slices) -> Stop
-    requires { WalkAsks h.now w.now p q row }
-    ensures walked { Walked h.now w.now p q row cap.0 known.0
-        result.left result.right result.a result.b result.fit.0 }
-    ensures stopped { Stopped h.now w.now cap.0 result.left result.right }
+fn walk(stack: &[Piece], p: usize, q: usize, row: u32, cap: Slices, known: Slices) -> Stop
+    requires { sizes stack.now WalkAsks p q row }
+    ensures walked { sizes stack.now Walked p q row cap.0 known.0 result }
+    ensures stopped { sizes stack.now Stopped cap.0 result.left result.right }
 {
     let mut x = p;
     let mut y = q;
     let mut a = row;
     let mut b = row;
     let mut fit = known.0;
-    'ends: while beside(w, x, y, cap) {
-        fit = larger(fit, get(w, x - 1) + get(w, y));
-        let left = a + get(h, x - 1);
-        let right = b + get(h, y);
+    'ends: while beside(stack, x, y, cap) {
+        fit = fit.max(width(stack, x - 1) + width(stack, y));
+        let left = a + height(stack, x - 1);
+        let right = b + height(stack, y);
         if left <= right {
             x -= 1;
             a = left;
@@ -76,99 +76,87 @@ fn walk(h: &[u16], w: &[u16], p: usize, q: usize, row: u32, cap: Slices, known: 
 }
 
 // A row for (x, y). Where a side is used up the rest stands on top of each other.
-fn offer(h: &[u16], e: &mut [u32], x: usize, y: usize, row: u32, end: Rows) -> Rows
-    requires { OfferAsks h.now e.old x y row }
-    ensures { Offered h.now e.old e.new x y row end.0 result.0 }
+fn offer(stack: &[Piece], e: &mut [u32], x: usize, y: usize, row: u32, end: Rows) -> Rows
+    requires { OfferAsks (heights_in stack.now) e.old x y row }
+    ensures { Offered (heights_in stack.now) e.old e.new x y row end.0 result.0 }
 {
     if x == 0 {
-        return Rows(lesser(end.0, row + e[y]));
+        return Rows(end.0.min(row + e[y]));
     }
-    if y == h.len() {
-        return Rows(lesser(end.0, row + e[x * STRIDE + y]));
+    let at = x * STRIDE + y;
+    if y == stack.len() {
+        return Rows(end.0.min(row + e[at]));
     }
-    let v = lesser(row, e[x * STRIDE + y]);
-    e[x * STRIDE + y] = v;
+    e[at] = row.min(e[at]);
     end
 }
 
 // The end of a walk: one side is used up, or of two components that clash one goes first.
-fn settle(h: &[u16], w: &[u16], e: &mut [u32], t: Stop, s: Run) -> Run
-    requires { SettleAsks h.now w.now e.old t.left t.right t.a t.b }
-    ensures settled { Settled h.now w.now e.old e.new
-        t.left t.right t.a t.b s.height.0 s.clash.0 result.height.0 result.clash.0 }
-    ensures fit_value { result.fit.0 ≡ t.fit.0 }
+fn settle(stack: &[Piece], e: &mut [u32], t: Stop, s: Run) -> Run
+    requires { sizes stack.now SettleAsks e.old t }
+    ensures { sizes stack.now Settled e.old e.new t s result }
 {
     let x = t.left;
     let y = t.right;
-    let end = s.height;
     let fit = t.fit;
-    let clash = s.clash;
+    let end = s.height;
     if x == 0 {
         return Run {
-            height: offer(h, e, x, y, t.b, end),
+            height: offer(stack, e, x, y, t.b, end),
             fit,
-            clash,
+            ..s
         };
     }
-    if y == h.len() {
+    if y == stack.len() {
         return Run {
-            height: offer(h, e, x, y, t.a, end),
+            height: offer(stack, e, x, y, t.a, end),
             fit,
-            clash,
+            ..s
         };
     }
-    let one = offer(h, e, x - 1, y, t.a + get(h, x - 1), end);
+    let one = offer(stack, e, x - 1, y, t.a + height(stack, x - 1), end);
     Run {
-        height: offer(h, e, x, y + 1, t.b + get(h, y), one),
+        height: offer(stack, e, x, y + 1, t.b + height(stack, y), one),
         fit,
-        clash: Slices(lesser(clash.0, get(w, x - 1) + get(w, y))),
+        clash: Slices(s.clash.0.min(width(stack, x - 1) + width(stack, y))),
     }
 }
 
 // The turn of the entry (p, q). It is left out if even the taller side alone does not get under the height found.
-fn turn(h: &[u16], w: &[u16], e: &mut [u32], p: usize, q: usize, cap: Slices, s: Run) -> Run
-    requires { TurnAsks h.now w.now e.old cap.0 s.fit.0 s.clash.0 p q }
-    ensures { Moved h.now w.now e.old e.new cap.0
-        s.height.0 s.fit.0 s.clash.0 result.height.0 result.fit.0 result.clash.0 p q p (q + 1) }
+fn turn(stack: &[Piece], e: &mut [u32], p: usize, q: usize, cap: Slices, s: Run) -> Run
+    requires { sizes stack.now TurnAsks e.old cap.0 s p q }
+    ensures { sizes stack.now Moved e.old e.new cap.0 s result p q p (q + 1) }
 {
     let row = cell(e, p, q);
-    let rest = larger(cell(e, p, h.len()), e[q]);
+    let rest = cell(e, p, stack.len()).max(e[q]);
     let end = row + rest;
     if s.height.0 <= end {
         return s;
     }
-    let t = walk(h, w, p, q, row, cap, s.fit);
-    settle(h, w, e, t, s)
+    let t = walk(stack, p, q, row, cap, s.fit);
+    settle(stack, e, t, s)
 }
 
 // The turns of row p.
-fn over_row(h: &[u16], w: &[u16], e: &mut [u32], p: usize, cap: Slices, s: Run) -> Run
-    requires { RowAsks h.now w.now e.old cap.0 s.fit.0 s.clash.0 p }
-    ensures { Moved h.now w.now e.old e.new cap.0
-        s.height.0 s.fit.0 s.clash.0 result.height.0 result.fit.0 result.clash.0
-        p p p (length h.now) }
+fn over_row(stack: &[Piece], e: &mut [u32], p: usize, cap: Slices, s: Run) -> Run
+    requires { sizes stack.now RowAsks e.old cap.0 s p }
+    ensures { sizes stack.now RowMoved e.old e.new cap.0 s result p }
 {
     let mut best = s;
-    let mut q = p;
-    while q < h.len() {
-        best = turn(h, w, e, p, q, cap, best);
-        q += 1;
+    for q in p..stack.len() {
+        best = turn(stack, e, p, q, cap, best);
     }
     best
 }
 
 // All turns.
-fn over_rows(h: &[u16], w: &[u16], e: &mut [u32], cap: Slices, s: Run) -> Run
-    requires { MoveAsks h.now w.now e.old cap.0 s.fit.0 s.clash.0 × (1 ≤ length h.now) }
-    ensures { Moved h.now w.now e.old e.new cap.0
-        s.height.0 s.fit.0 s.clash.0 result.height.0 result.fit.0 result.clash.0
-        (length h.now) (length h.now) 1 (length h.now) }
+fn over_rows(stack: &[Piece], e: &mut [u32], cap: Slices, s: Run) -> Run
+    requires { sizes stack.now RowsAsk e.old cap.0 s }
+    ensures { sizes stack.now RowsMoved e.old e.new cap.0 s result }
 {
     let mut best = s;
-    let mut p = h.len();
-    while 1 < p {
-        p -= 1;
-        best = over_row(h, w, e, p, cap, best);
+    for p in (1..stack.len()).rev() {
+        best = over_row(stack, e, p, cap, best);
     }
     best
 }
@@ -178,61 +166,46 @@ fn clear_row(e: &mut [u32], p: usize, m: usize, v: u32)
     requires { ClearRowAsks m e.old p }
     ensures { RowCleared m e.old e.new p v }
 {
-    let mut q = p + 1;
-    while q < m {
-        e[p * STRIDE + q] = NONE;
-        q += 1;
-    }
-    e[p * STRIDE + p] = v;
+    let at = p * STRIDE;
+    e[at + p] = v;
+    e[at + p + 1..at + m].fill(NONE);
 }
 
 // The table at the start; `both` is the larger of the gaps before and behind the group. A fold that is barred starts far.
-fn clear(g: &[u16], e: &mut [u32], both: u32)
-    requires { ClearAsks g.now e.old both }
-    ensures { Cleared g.now e.old e.new both (length g.now) }
+fn clear(stack: &[Piece], e: &mut [u32], both: u32)
+    requires { ClearAsks (seams_in stack.now) e.old both }
+    ensures { Cleared (seams_in stack.now) e.old e.new both (length (seams_in stack.now)) }
 {
-    let m = g.len();
-    let mut p = 1;
-    while p < m {
-        let v = fold_rows(g, p, both);
+    let m = stack.len();
+    for p in 1..m {
+        let v = fold_rows(stack, p, both);
         clear_row(e, p, m, v);
-        p += 1;
     }
 }
 
 // The rows of each side alone, which are the same for every cap.
-fn borders(h: &[u16], e: &mut [u32])
-    requires { Low h.now e.old }
-    ensures { Bordered h.now e.new }
+fn borders(stack: &[Piece], e: &mut [u32])
+    requires { Low (heights_in stack.now) e.old }
+    ensures { Bordered (heights_in stack.now) e.new }
 {
-    group_table::fill_top(h, e);
-    group_table::fill_side(h, e);
+    group_table::fill_top(stack, e);
+    group_table::fill_side(stack, e);
 }
 
 // The least height if it is within the limit, and else one more than the limit.
-fn search(
-    g0: Rows,
-    flat: Rows,
-    h: &[u16],
-    w: &[u16],
-    g: &[u16],
-    e: &mut [u32],
-    limit: Rows,
-    cap: Slices,
-) -> Run
-    requires { SearchAsks g0.0 flat.0 h.now w.now g.now e.old limit.0 cap.0 }
-    ensures searched { Searched g0.0 h.now w.now g.now limit.0 cap.0
-        result.height.0 result.fit.0 result.clash.0 }
-    ensures bordered { Bordered h.now e.new }
+fn search(g0: Rows, flat: Rows, stack: &[Piece], e: &mut [u32], limit: Rows, cap: Slices) -> Run
+    requires { columns stack.now (SearchAsks g0.0 flat.0) e.old limit.0 cap.0 }
+    ensures searched { columns stack.now (Searched g0.0) limit.0 cap.0 result }
+    ensures bordered { Bordered (heights_in stack.now) e.new }
 {
-    let both = larger(g0.0, gap(g, g.len() - 1));
-    clear(g, e, both);
+    let both = g0.0.max(gap(stack, stack.len() - 1));
+    clear(stack, e, both);
     let start = Run {
-        height: Rows(lesser(limit.0 + 1, flat.0)),
+        height: Rows((limit.0 + 1).min(flat.0)),
         fit: Slices(0),
         clash: Slices(NONE),
     };
-    over_rows(h, w, e, cap, start)
+    over_rows(stack, e, cap, start)
 }
 
 // The cap to start with: a group that keeps the limit without a fold keeps it at every cap.
@@ -240,10 +213,7 @@ fn first_cap(flat: Rows, limit: Rows, low: Slices, cap: Slices) -> Slices
     requires { low.0 ≤ cap.0 }
     ensures { FirstCap flat.0 limit.0 low.0 cap.0 result.0 }
 {
-    if flat.0 <= limit.0 {
-        return low;
-    }
-    cap
+    if flat.0 <= limit.0 { low } else { cap }
 }
 
 // The least width from `low` to the cap at which the group is within the limit, by halving, where it is known that no cap
@@ -252,43 +222,40 @@ fn first_cap(flat: Rows, limit: Rows, low: Slices, cap: Slices) -> Slices
 pub fn narrowest(
     g0: Rows,
     flat: Rows,
-    h: &[u16],
-    w: &[u16],
-    g: &[u16],
+    stack: &[Piece],
     e: &mut [u32],
     limit: Rows,
     widest: Slices,
     low: Slices,
     cap: Slices,
 ) -> Fit
-    requires { LowAsks g0.0 flat.0 h.now w.now g.now e.old limit.0 widest.0 low.0 cap.0 }
-    ensures narrow { Narrow g0.0 h.now w.now g.now limit.0 cap.0
+    requires { columns stack.now (LowAsks g0.0 flat.0) e.old limit.0 widest.0 low.0 cap.0 }
+    ensures narrow { columns stack.now (Narrow g0.0) limit.0 cap.0
         result.width.0 result.height.0 }
-    ensures over { Over g0.0 h.now w.now g.now limit.0 widest.0
+    ensures over { columns stack.now (Over g0.0) limit.0 widest.0
         result.least.0 }
 {
     let top = first_cap(flat, limit, low, cap);
-    borders(h, e);
-    let first = search(g0, flat, h, w, g, e, limit, top);
-    let clash = first.clash.0;
-    if limit.0 < first.height.0 {
+    borders(stack, e);
+    let Run { height, fit, clash } = search(g0, flat, stack, e, limit, top);
+    if limit.0 < height.0 {
         return Fit {
             width: Slices(NONE),
             height: Rows(NONE),
-            least: Slices(clash),
+            least: clash,
         };
     }
-    let mut v = first.height;
+    let mut v = height;
     let mut lo = low.0;
-    let mut hi = larger(first.fit.0, low.0);
+    let mut hi = fit.0.max(lo);
     while lo < hi {
-        let mid = lo + (hi - lo) / 2;
-        let run = search(g0, flat, h, w, g, e, limit, Slices(mid));
+        let mid = lo.midpoint(hi);
+        let run = search(g0, flat, stack, e, limit, Slices(mid));
         if run.height.0 <= limit.0 {
-            hi = larger(run.fit.0, lo);
+            hi = run.fit.0.max(lo);
             v = run.height;
         } else {
-            lo = lesser(run.clash.0, hi);
+            lo = run.clash.0.min(hi);
         }
     }
     Fit {

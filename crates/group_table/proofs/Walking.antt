@@ -1,58 +1,18 @@
 -- A walk along the two sides of a group: the components side by side, and its end.
-use Prim.Native.Nat.{ℕ, ◌+◌, ◌-◌, ◌*◌, ◌≤◌, ◌<◌, min}
-use mathlib.Core.Path.{◌≡◌, refl, sym, ap, ◌∙◌}
+use Prim.Native.Nat.{ℕ, ◌+◌, ◌-◌, ◌*◌, ◌≤◌, ◌<◌}
+use mathlib.Core.Path.{◌≡◌, sym, ap, ◌∙◌}
 use mathlib.Core.Logic.{◌⊎◌, inl, inr}
 use mathlib.Core.List.{List, []}
-use mathlib.Core.Bool.{false, false≢true}
 use native.Mathlib.Nat.{zero-add}
 use native.Mathlib.Omega.{arith}
 use lib.ListN.{length, get_or}
-use lib.Dec.{leb}
-use borrow.Author.Tests.{leb-true, leb-false}
 use Rattle.terms.specs.Seams.{component_in}
 use Rattle.group.specs.Rows.{rows}
 use Rattle.group.specs.Group.{left_side, right_side}
 use Rattle.group.specs.Table.{bare, entry, most_entry}
 use Rattle.terms.proofs.Order.{order}
-use Rattle.group_table.specs.Inner.{Sharing, Ready, Ending, Ended}
+use Rattle.group_table.specs.Inner.{Ready, Ending, Ended}
 use Rattle.group.proofs.Indices.{at_top, at_side, at_left, at_right, at_clash, at_le}
-
--- The answers of `beside`.
-module _ (ws : List ℕ) (cap p q : ℕ) where
-  pub no_left : p ≡ 0 → Sharing ws cap p q false
-  no_left z = record {
-    left_there = λ e. absurd (false≢true e);
-    right_there = λ e. absurd (false≢true e);
-    fits = λ e. absurd (false≢true e);
-    clash = λ e l r. absurd (omega arith);
-  }
-
-  pub no_right : q ≡ length ws → Sharing ws cap p q false
-  no_right z = record {
-    left_there = λ e. absurd (false≢true e);
-    right_there = λ e. absurd (false≢true e);
-    fits = λ e. absurd (false≢true e);
-    clash = λ e l r. absurd (omega arith);
-  }
-
-  pub sharing : (x y : ℕ) → 0 < p → q < length ws → x ≡ get_or ws (p - 1) 0 → y ≡ get_or ws q 0 → Sharing ws cap p q (leb (x + y) cap)
-  sharing x y l r e f = record {
-    left_there = λ t. l;
-    right_there = λ t. r;
-    fits = λ t. omega (arith, leb-true (x + y) cap t);
-    clash = λ t u v. omega (arith, leb-false (x + y) cap t);
-  }
-
--- The answers of `ending`.
-module _ (hs es : List ℕ) (p q a b v : ℕ) where
-  pub ended_top : p ≡ 0 → v ≡ b + get_or es q 0 → Ended hs es p q a b v
-  ended_top z e = record { top = λ t. e; side = λ t u. absurd (omega arith); clash = λ t u. absurd (omega arith) }
-
-  pub ended_side : 0 < p → q ≡ length hs → v ≡ a + get_or es (p * 65 + q) 0 → Ended hs es p q a b v
-  ended_side z y e = record { top = λ t. absurd (omega arith); side = λ t u. e; clash = λ t u. absurd (omega arith) }
-
-  pub ended_clash : 0 < p → q < length hs → v ≡ min (a + get_or hs (p - 1) 0 + get_or es ((p - 1) * 65 + q) 0) (b + get_or hs q 0 + get_or es (p * 65 + (q + 1)) 0) → Ended hs es p q a b v
-  ended_clash z y e = record { top = λ t. absurd (omega arith); side = λ t u. absurd (omega arith); clash = λ t u. e }
 
 -- The walk has come to (x, y), with rows a on the left and b on the right.
 pub record Walking (hs ws : List ℕ) (p q cap x y a b : ℕ) : Type 0 where
@@ -62,9 +22,6 @@ pub record Walking (hs ws : List ℕ) (p q cap x y a b : ℕ) : Type 0 where
   pub left_low : a + 4000 * x ≤ 4000 * p
   pub right_low : b + 4000 * q ≤ 4000 * y
   pub same : rows cap a b (left_side x (bare hs ws)) (right_side y (bare hs ws)) ≡ entry hs ws cap p q
-
-pub walk_start : {hs ws es : List ℕ} {cap p q : ℕ} → Ready hs ws es cap p q → Walking hs ws p q cap p q 0 0
-walk_start r = record { left_in = omega arith; right_from = omega arith; right_in = omega (arith, r.more); left_low = omega arith; right_low = omega arith; same = refl }
 
 module _ {hs ws es : List ℕ} {p q cap x y a b : ℕ} (r : Ready hs ws es cap p q) (i : Walking hs ws p q cap x y a b) where
   pub few : length hs ≤ 64

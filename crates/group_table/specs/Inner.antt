@@ -59,7 +59,7 @@ pub record RowDone (hs ws old new : List ℕ) (cap p q : ℕ) : Type 0 where
   pub below : (i : ℕ) → i < p * stride + q → get_or new i 0 ≡ get_or old i 0
   pub beyond : (i : ℕ) → p * stride + length hs ≤ i → get_or new i 0 ≡ get_or old i 0
 
--- The borders are right for all widths and every cap.
+-- What filling the borders asks. They are right for all widths and every cap.
 pub record Low (hs es : List ℕ) : Type 0 where
   pub few : length hs ≤ most_nested
   pub low : (i : ℕ) → get_or hs i 0 ≤ most_size

@@ -1,27 +1,20 @@
 -- The writing of one group, turn by turn: what lies between the two sides that are still to be placed is written.
-use Prim.Native.Nat.{ℕ, suc, ◌+◌, ◌-◌, ◌*◌, ◌≤◌, ◌<◌}
+use Prim.Native.Nat.{ℕ, ◌+◌, ◌-◌, ◌*◌, ◌≤◌, ◌<◌}
 use mathlib.Core.Path.{◌≡◌, refl, sym, ap, ◌∙◌}
-use mathlib.Core.Bool.{true, false}
 use mathlib.Core.List.{List, [], ◌∷◌, ◌++◌, reverse_aux, append-nil, append_assoc}
 use native.Mathlib.Omega.{arith}
-use lib.ListN.{length, take, drop, set, length-append, take-append-drop}
-use lib.Seq.{length-take-le, take-append-le, take-take, take_at, drop_at, drop-drop, append_snoc, sets-eq}
+use lib.ListN.{length, take, drop, length-append, take-append-drop}
+use lib.Seq.{length-take-le, take-append-le, take-take, take_at, drop_at, drop-drop, append_snoc}
 use Rattle.folding.specs.declared.Placement.{Placement}
 use Rattle.group.specs.Rows.{Starts}
 use Rattle.group.specs.Group.{on_left, on_right, group_places}
 use Rattle.group.specs.Table.{bare}
 use Rattle.folding.specs.Placement.{flat_of}
+use Rattle.group_trace.specs.declared.Side.TheVariants.{Left, Right}
 use Rattle.group_trace.specs.declared.Turn.{Turn}
 use Rattle.group_trace.specs.Trace.{WriteAsks, TurnAsks, starts_of, Turned}
 use Rattle.folding.proofs.Flat.{flat_append, flat-length}
 use Rattle.group_trace.proofs.Sides.{place_none, bare-length, right_end}
-
--- Three numbers written one after the other.
-pub put_is : (l : List ℕ) (k g s t : ℕ) → k + 2 < length l → set (set (set l k g) (k + 1) s) (k + 2) t ≡ take k l ++ (g ∷ s ∷ t ∷ drop (k + 3) l)
-put_is l k g s t h =
-    let e : k + 1 ≡ suc k = omega arith in
-    let f : k + 2 ≡ suc (suc k) = omega arith in
-    rw (e, f) (sets-eq (g ∷ s ∷ t ∷ []) l k (omega arith) ∙ append_assoc (take k l) (g ∷ s ∷ t ∷ []) (drop (k + 3) l))
 
 -- The list in three parts: as it was, written, as it was.
 module _ (old : List ℕ) where
@@ -89,14 +82,11 @@ module _ {hs ws es old : List ℕ} {from cap : ℕ} (s : WriteAsks hs ws es old 
     whole_of ps t = reverse_aux (on_left g t.on_the_left) (ps ++ on_right g t.on_the_right)
 
     module _ {t : Turn} (n : Turned cap (bare hs ws) p q a b t) where
-      pub left_room : t.left ≡ true → (p - 1 < 256) × (3 * (p - 1) + 2 < length out)
-      left_room l = (omega (arith, n.some l, i.count, i.within, s.few), omega (arith, n.some l, i.count, i.within, s.room, i.long))
-
-      pub right_room : t.left ≡ false → (q < 256) × (3 * q + 2 < length out)
+      pub right_room : t.side ≡ Right → (q < 256) × (3 * q + 2 < length out)
       right_room l = (omega (arith, n.rest l, bare-length hs ws, s.few), omega (arith, n.rest l, bare-length hs ws, s.room, i.long))
 
     module _ {t : Turn} (n : Turned cap (bare hs ws) p q a b t) {new : List ℕ} (len : length new ≡ length out) where
-      pub left_more : t.left ≡ true → new ≡ take (3 * (p - 1)) out ++ (g ∷ 0 ∷ a ∷ drop (3 * (p - 1) + 3) out) → Writing hs ws old g from cap new (p - 1) q t.a t.b
+      pub left_more : t.side ≡ Left → new ≡ take (3 * (p - 1)) out ++ (g ∷ 0 ∷ a ∷ drop (3 * (p - 1) + 3) out) → Writing hs ws old g from cap new (p - 1) q t.a t.b
       left_more l e =
           let h : 0 < p = n.some l in
           record {
@@ -112,7 +102,7 @@ module _ {hs ws es old : List ℕ} {from cap : ℕ} (s : WriteAsks hs ws es old 
             long = len ∙ i.long;
           }
 
-      pub right_more : t.left ≡ false → new ≡ take (3 * q) out ++ (g ∷ 1 ∷ b ∷ drop (3 * q + 3) out) → Writing hs ws old g from cap new p (q + 1) t.a t.b
+      pub right_more : t.side ≡ Right → new ≡ take (3 * q) out ++ (g ∷ 1 ∷ b ∷ drop (3 * q + 3) out) → Writing hs ws old g from cap new p (q + 1) t.a t.b
       right_more l e =
           let h : q < length hs = omega (arith, n.rest l, bare-length hs ws) in
           let y : Placement = record { group = g; side = 1; start = b } in

@@ -1,12 +1,13 @@
 -- What the writing of one group asks, and what one turn of it does: it places one component, on the left or on the right.
 -- Nothing here is part of a public promise.
-use Rattle.std.specs.Prelude.{ℕ, ◌+◌, ◌-◌, ◌*◌, ◌≤◌, ◌<◌, max, ◌≡◌, List, ◌++◌, true, false, length, drop}
+use Rattle.std.specs.Prelude.{ℕ, ◌+◌, ◌-◌, ◌*◌, ◌≤◌, ◌<◌, max, ◌≡◌, List, ◌++◌, length, drop}
 use Rattle.terms.specs.Numbers.{most_size, most_apart, most_nested}
 use Rattle.terms.specs.declared.Component.{Component}
 use Rattle.folding.specs.Placement.{flat_of}
 use Rattle.group.specs.Rows.{Starts, put_left, put_right, place}
 use Rattle.group.specs.Group.{left_side, right_side, group_places}
 use Rattle.group.specs.Table.{bare, Columns, Filled}
+use Rattle.group_trace.specs.declared.Side.TheVariants.{Left, Right}
 use Rattle.group_trace.specs.declared.Turn.{Turn}
 
 -- Where a group has no fold the table is not read, and the group may have more components than a table takes.
@@ -40,10 +41,10 @@ starts_of cap cs p q a b = place cap a b (left_side p cs) (right_side q cs)
 
 -- The turn places the last one of the left side, or the first one of the right side, and says where the sides go on.
 pub record Turned (cap : ℕ) (cs : List Component) (p q a b : ℕ) (t : Turn) : Type 0 where
-  pub some : t.left ≡ true → 0 < p
-  pub to_left : t.left ≡ true → starts_of cap cs p q a b ≡ put_left a (starts_of cap cs (p - 1) q t.a t.b)
-  pub rest : t.left ≡ false → q < length cs
-  pub to_right : t.left ≡ false → starts_of cap cs p q a b ≡ put_right b (starts_of cap cs p (q + 1) t.a t.b)
+  pub some : t.side ≡ Left → 0 < p
+  pub to_left : t.side ≡ Left → starts_of cap cs p q a b ≡ put_left a (starts_of cap cs (p - 1) q t.a t.b)
+  pub rest : t.side ≡ Right → q < length cs
+  pub to_right : t.side ≡ Right → starts_of cap cs p q a b ≡ put_right b (starts_of cap cs p (q + 1) t.a t.b)
   pub low : max t.a t.b ≤ max a b + most_size
 
 -- A buffer that holds the placements of the group with p components on the left, and behind them what it held.

@@ -1,10 +1,11 @@
 -- The best layouts of a stack and of all that is left of it, in three lists.
-use Rattle.std.specs.Prelude.{ℕ, ◌≤◌, ◌<◌, ◌≡◌, List, length, get_or}
+use Rattle.std.specs.Prelude.{ℕ, ◌≤◌, ◌<◌, ◌≡◌, List, map, length, get_or}
 use Rattle.terms.specs.Numbers.{most_size}
 use Rattle.terms.specs.declared.Component.{Component}
 use Rattle.terms.specs.declared.Kind.{Kind}
 use Rattle.terms.specs.Component.{most_of}
 use Rattle.terms.specs.Seams.{gap_at}
+use Rattle.layout.specs.declared.Entry.{Entry}
 use Rattle.layout.specs.Layout.{Layout, unmet, layouts}
 
 -- The columns of a stack, or of what is left of one, which are called hs, ws and gs throughout: as many widths and seams as
@@ -27,3 +28,21 @@ pub record PlannedAt (l : Layout) (width height end : ℕ) : Type 0 where
 
 pub record Planned (kind : Kind) (limit g0 : ℕ) (cs : List Component) (widths heights ends : List ℕ) : Type 0 where
   pub at : (j : ℕ) → j ≤ length cs → PlannedAt (get_or (layouts kind limit g0 cs) j unmet) (get_or widths j 0) (get_or heights j 0) (get_or ends j 0)
+
+-- A plan as calls hand it on: a layout for each number of components before it. Its three lists are what the recurrence
+-- speaks of.
+abbrev pub plan_widths : List Entry → List ℕ
+plan_widths = map (λ b. b.width.0)
+
+abbrev pub plan_heights : List Entry → List ℕ
+plan_heights = map (λ b. b.height.0)
+
+abbrev pub plan_ends : List Entry → List ℕ
+plan_ends = map (λ b. b.end)
+
+-- What is said of a plan's widths, heights and ends; and of its widths and heights.
+abbrev pub lists {ℓ} : {A : Type ℓ} → List Entry → (List ℕ → List ℕ → List ℕ → A) → A
+lists plan f = f (plan_widths plan) (plan_heights plan) (plan_ends plan)
+
+abbrev pub outlines {ℓ} : {A : Type ℓ} → List Entry → (List ℕ → List ℕ → A) → A
+outlines plan f = f (plan_widths plan) (plan_heights plan)

@@ -1,9 +1,5 @@
 -- The pass over a folding, one component further.
-use Prim.Native.Nat.{ℕ, ◌+◌, ◌≤◌, ◌<◌}
-use mathlib.Core.Path.{◌≡◌, sym, ◌∙◌}
-use mathlib.Core.Bool.{Bool, true, false, ◌&&◌}
-use lib.ListN.{drop}
-use lib.Dec.{eqb}
+use Rattle.std.proofs.Common.{◌≡◌, ℕ, ◌+◌, ◌≤◌, ◌<◌, Bool, true, false, ◌&&◌, drop, eqb, sym, ◌∙◌}
 use Rattle.terms.specs.declared.Kind.{Kind}
 use Rattle.terms.specs.Component.{tabulate}
 use Rattle.terms.proofs.Bools.{both}
@@ -11,11 +7,12 @@ use Rattle.terms.proofs.Tabulate.{tabulate-drop, tabulate_end}
 use Rattle.folding.specs.declared.Placed.{Placed}
 use Rattle.folding.specs.Placement.{group_of, start_of, left}
 use Rattle.folding.specs.Legal.{unparted, legal}
-use Rattle.folding.proofs.Rules.{alone_rules, next_rules, passes, alone_is, legal_passes}
+use Rattle.folding.proofs.Rules.{passes, alone_is, legal_passes}
+use Rattle.legality.specs.Inner.{alone, follows}
 
 -- The pass of a legal folding, of which n components are tabulated.
 module _ (kind : Kind) (g : ℕ → Placed) (n : ℕ) where
-  module _ (x : Placed) (e : x ≡ g 0) (h : 0 < n) {b : Bool} (o : b ≡ (eqb (group_of x) 0 && left x && alone_rules kind x)) where
+  module _ (x : Placed) (e : x ≡ g 0) (h : 0 < n) {b : Bool} (o : b ≡ (eqb (group_of x) 0 && left x && alone kind x)) where
     opened : legal kind (tabulate g n) ≡ (b && passes kind x (drop 1 (tabulate g n)))
     opened = rw (tabulate-drop g n 0 h, ← e) (legal_passes kind x (drop 1 (tabulate g n)) ∙ rw (← o))
 
@@ -23,27 +20,25 @@ module _ (kind : Kind) (g : ℕ → Placed) (n : ℕ) where
     pass_unopened z = rw (opened, z)
 
     pub opened_low : b ≡ true → start_of x ≤ 1024000
-    opened_low z = (alone_is kind x (both (eqb (group_of x) 0 && left x) (alone_rules kind x) (sym o ∙ z)).1).low
+    opened_low z = (alone_is kind x (both (eqb (group_of x) 0 && left x) (alone kind x) (sym o ∙ z)).1).low
 
     pub pass_opened : b ≡ true → passes kind x (drop 1 (tabulate g n)) ≡ legal kind (tabulate g n)
     pass_opened z = rw (opened, z)
 
-  module _ (x y : Placed) (i : ℕ) (h : i < n) (e : y ≡ g i) {whole : Bool} (p : passes kind x (drop i (tabulate g n)) ≡ whole) where
-    here : (alone_rules kind y && next_rules x y && unparted x y && passes kind y (drop (i + 1) (tabulate g n))) ≡ whole
-    unfolding passes
-    here = rw (tabulate-drop g n i h, ← e) at p
+  module _ (x y : Placed) {b : Bool} (o : b ≡ (alone kind y && follows x y && unparted x y)) where
+    pub next_low : b ≡ true → start_of y ≤ 1024000
+    next_low z = (alone_is kind y (both (alone kind y) (follows x y) (both (alone kind y && follows x y) (unparted x y) (sym o ∙ z)).0).0).low
 
-    pub pass_alone : alone_rules kind y ≡ false → false ≡ whole
-    pass_alone a = rw a at here
+    module _ (i : ℕ) (h : i < n) (e : y ≡ g i) {whole : Bool} (p : passes kind x (drop i (tabulate g n)) ≡ whole) where
+      here : (b && passes kind y (drop (i + 1) (tabulate g n))) ≡ whole
+      unfolding passes
+      here = rw (tabulate-drop g n i h, ← e, ← o) at p
 
-    pub pass_broken : alone_rules kind y ≡ true → next_rules x y ≡ false → false ≡ whole
-    pass_broken a f = rw (a, f) at here
+      pub pass_broken : b ≡ false → false ≡ whole
+      pass_broken z = rw z at here
 
-    pub pass_parted : alone_rules kind y ≡ true → next_rules x y ≡ true → unparted x y ≡ false → false ≡ whole
-    pass_parted a f u = rw (a, f, u) at here
-
-    pub pass_on : alone_rules kind y ≡ true → next_rules x y ≡ true → unparted x y ≡ true → passes kind y (drop (i + 1) (tabulate g n)) ≡ whole
-    pass_on a f u = rw (a, f, u) at here
+      pub pass_on : b ≡ true → passes kind y (drop (i + 1) (tabulate g n)) ≡ whole
+      pass_on z = rw z at here
 
   pub pass_done : (x : Placed) (i : ℕ) {whole : Bool} → n ≤ i → passes kind x (drop i (tabulate g n)) ≡ whole → true ≡ whole
   unfolding passes

@@ -2,128 +2,75 @@
 #![tactic(auto)]
 
 ghost use Rattle.std.specs.Prelude.{◌≡◌};
-ghost use Rattle.terms.specs.Seams.{components_in};
-ghost use Rattle.folding.specs.Calls.{measured_answer, measure_in, measure_of, choose_of, second_wins, winner_is};
+ghost use Rattle.terms.specs.Answer.{answer_of};
+ghost use Rattle.terms.specs.Pieces.{columns, stack_in};
+ghost use Rattle.folding.specs.Calls.{measure_in, measure_of, choose_of, second_wins, winner_is};
 ghost use Rattle.folding.specs.Asks.{StackIn};
-ghost use Rattle.measure.specs.Inner.{FirstIn, measure_first, better_first};
+ghost use Rattle.measure.specs.Inner.{better_in};
 
-use folding::{Measured, Outline, Winner};
-use terms::{Counted, Kind, MOST_APART, Refusal};
+use folding::{Outline, Winner};
+use terms::{Kind, MOST_APART, Piece, Refusal};
 
-// Measures a stack that stands in lists.
-fn measure_lists(
-    kind: Kind,
-    heights: &[u16],
-    widths: &[u16],
-    seams: &[u16],
-    flat: &[u32],
-) -> Measured
-    requires { StackIn heights.now widths.now seams.now }
-    ensures { measured_answer result
-        ≡ measure_in kind (components_in heights.now widths.now seams.now)
-        flat.now }
+// Measures a stack.
+fn measure_stack(kind: Kind, stack: &[Piece], flat: &[u32]) -> Result<Outline, Refusal>
+    requires { columns stack.now StackIn }
+    ensures { answer_of result ≡ measure_in kind (stack_in stack.now) flat.now }
 {
-    if flat.len() / 3 < heights.len() {
-        return Measured::Refused(Refusal::ShortBuffer);
+    if flat.len() / 3 < stack.len() {
+        return Err(Refusal::ShortBuffer);
     }
-    if !legality::is_legal(kind, heights, widths, seams, flat) {
-        return Measured::Refused(Refusal::BrokenFolding);
+    if !legality::is_legal(kind, stack, flat) {
+        return Err(Refusal::BrokenFolding);
     }
-    Measured::Outlined(outline::outline_of(heights, widths, seams, flat))
+    Ok(outline::outline_of(stack, flat))
 }
 
-// Measures a stack that stands in the first n entries of three lists.
-fn measure_first(
-    kind: Kind,
-    n: usize,
-    heights: &[u16],
-    widths: &[u16],
-    seams: &[u16],
-    flat: &[u32],
-) -> Measured
-    requires { FirstIn n heights.now widths.now seams.now }
-    ensures { measured_answer result
-        ≡ measure_first kind n heights.now widths.now seams.now flat.now }
+pub fn measure(file: &[u8], kind: Kind, flat: &[u32]) -> Result<Outline, Refusal>
+    ensures { answer_of result ≡ measure_of kind file.now flat.now }
 {
-    measure_lists(kind, &heights[..n], &widths[..n], &seams[..n], flat)
-}
-
-pub fn measure(file: &[u8], kind: Kind, flat: &[u32]) -> Measured
-    ensures { measured_answer result ≡ measure_of kind file.now flat.now }
-{
-    let mut heights = [0u16; MOST_APART];
-    let mut widths = [0u16; MOST_APART];
-    let mut seams = [0u16; MOST_APART];
-    match stack::read_seams(file, kind, &mut heights, &mut widths, &mut seams) {
-        Counted::Refused(k) => Measured::Refused(k),
-        Counted::Count(n) => measure_first(kind, n, &heights, &widths, &seams, flat),
-    }
+    let mut room = [Piece::NONE; MOST_APART];
+    let n = stack::read_pieces(file, kind, &mut room)?;
+    measure_stack(kind, &room[..n], flat)
 }
 
 fn second_wins(o: Outline, p: Outline) -> bool
     ensures { result ≡ second_wins o p }
 {
-    if p.width.0 < o.width.0 {
-        return true;
-    }
-    if p.width.0 == o.width.0 {
-        return p.height.0 < o.height.0;
-    }
-    false
+    (p.width, p.height) < (o.width, o.height)
 }
 
 // Which of two measured foldings wins, or neither where measuring refused one of them.
-pub fn better(first: Measured, second: Measured) -> Winner
-    ensures { result ≡ winner_is (measured_answer first) (measured_answer second) }
+pub fn better(first: Result<Outline, Refusal>, second: Result<Outline, Refusal>) -> Option<Winner>
+    ensures { result ≡ winner_is (answer_of first) (answer_of second) }
 {
-    match first {
-        Measured::Refused(_) => Winner::Neither,
-        Measured::Outlined(o) => match second {
-            Measured::Refused(_) => Winner::Neither,
-            Measured::Outlined(p) => {
-                if second_wins(o, p) {
-                    return Winner::Second;
-                }
-                Winner::First
-            }
-        },
+    match (first, second) {
+        (Ok(o), Ok(p)) if second_wins(o, p) => Some(Winner::Second),
+        (Ok(_), Ok(_)) => Some(Winner::First),
+        _ => None,
     }
 }
 
-// Which of two foldings of the stack in the first n entries of three lists wins.
-fn better_of(
-    kind: Kind,
-    n: usize,
-    heights: &[u16],
-    widths: &[u16],
-    seams: &[u16],
-    first: &[u32],
-    second: &[u32],
-) -> Winner
-    requires { FirstIn n heights.now widths.now seams.now }
-    ensures { result ≡ better_first kind n
-        heights.now widths.now seams.now first.now second.now }
+// Which of two foldings of a stack wins.
+fn better_of(kind: Kind, stack: &[Piece], first: &[u32], second: &[u32]) -> Option<Winner>
+    requires { columns stack.now StackIn }
+    ensures { result ≡ better_in kind (stack_in stack.now) first.now second.now }
 {
-    let a = measure_first(kind, n, heights, widths, seams, first);
-    let b = measure_first(kind, n, heights, widths, seams, second);
+    let a = measure_stack(kind, stack, first);
+    let b = measure_stack(kind, stack, second);
     better(a, b)
 }
 
 pub fn choose<'a>(file: &[u8], kind: Kind, first: &'a [u32], second: &'a [u32]) -> &'a [u32]
     ensures { result.now ≡ choose_of kind file.now first.now second.now }
 {
-    let mut heights = [0u16; MOST_APART];
-    let mut widths = [0u16; MOST_APART];
-    let mut seams = [0u16; MOST_APART];
-    match stack::read_seams(file, kind, &mut heights, &mut widths, &mut seams) {
-        Counted::Refused(_) => &first[..0],
-        Counted::Count(n) => {
-            let end = 3 * n;
-            match better_of(kind, n, &heights, &widths, &seams, first, second) {
-                Winner::First => &first[..end],
-                Winner::Second => &second[..end],
-                Winner::Neither => &first[..0],
-            }
-        }
+    let mut room = [Piece::NONE; MOST_APART];
+    let Ok(n) = stack::read_pieces(file, kind, &mut room) else {
+        return &first[..0];
+    };
+    let end = 3 * n;
+    match better_of(kind, &room[..n], first, second) {
+        Some(Winner::First) => &first[..end],
+        Some(Winner::Second) => &second[..end],
+        None => &first[..0],
     }
 }

@@ -1,13 +1,13 @@
-// Small functions on numbers, columns of 16-bit numbers and tables.
+// The numbers of a stack in a list of pieces, and of the table of a group.
 #![tactic(auto)]
 
-ghost use Rattle.std.specs.Prelude.{◌≡◌, ◌+◌, ◌*◌, ◌≤◌, ◌<◌, min, max, length, get_or};
+ghost use Rattle.std.specs.Prelude.{◌≡◌, ◌+◌, ◌*◌, ◌≤◌, ◌<◌, length, get_or};
 ghost use Rattle.terms.specs.Numbers.{most_nested};
-ghost use Rattle.terms.specs.Seams.{gap_at, mark_at, barred_at, component_in};
-ghost use Rattle.numbers.specs.Columns.{InLists};
+ghost use Rattle.terms.specs.Pieces.{heights_in, widths_in, seams_in, columns};
+ghost use Rattle.terms.specs.Seams.{gap_at, barred_at, component_in};
 ghost use Rattle.numbers.specs.Table.{stride, cells};
 
-use terms::{Component, Rows, Slices};
+use terms::{Component, Piece};
 
 // The entries of a row of a table: one more than a group that is folded may have components.
 pub const STRIDE: usize = terms::MOST_NESTED + 1;
@@ -15,56 +15,45 @@ pub const STRIDE: usize = terms::MOST_NESTED + 1;
 // And all its entries.
 pub const CELLS: usize = STRIDE * STRIDE;
 
-pub fn wide(x: u16) -> u32
-    ensures value { result ≡ x }
+// The height, the width and the gap of one piece of a stack, and whether a fold behind it is barred.
+pub fn height(stack: &[Piece], i: usize) -> u32
+    requires { i < length stack.now }
+    ensures value { result ≡ get_or (heights_in stack.now) i 0 }
     ensures upper_bound { result < 65536 }
 {
-    x as u32
+    u32::from(stack[i].height)
 }
 
-pub fn get(column: &[u16], i: usize) -> u32
-    requires { i < length column.now }
-    ensures value { result ≡ get_or column.now i 0 }
+pub fn width(stack: &[Piece], i: usize) -> u32
+    requires { i < length stack.now }
+    ensures value { result ≡ get_or (widths_in stack.now) i 0 }
     ensures upper_bound { result < 65536 }
 {
-    wide(column[i])
+    u32::from(stack[i].width)
 }
 
-// The gap in a seam of a column, and the mark.
-pub fn gap(seams: &[u16], i: usize) -> u32
-    requires { i < length seams.now }
-    ensures value { result ≡ gap_at seams.now i }
+pub fn gap(stack: &[Piece], i: usize) -> u32
+    requires { i < length stack.now }
+    ensures value { result ≡ gap_at (seams_in stack.now) i }
     ensures upper_bound { result < 65536 }
 {
-    get(seams, i) / 2
+    u32::from(stack[i].gap)
 }
 
-pub fn mark(seams: &[u16], i: usize) -> u32
-    requires { i < length seams.now }
-    ensures { result ≡ mark_at seams.now i }
+pub fn barred(stack: &[Piece], i: usize) -> bool
+    requires { i < length stack.now }
+    ensures { result ≡ barred_at (seams_in stack.now) i }
 {
-    get(seams, i) % 2
+    stack[i].barred
 }
 
-pub fn barred(seams: &[u16], i: usize) -> bool
-    requires { i < length seams.now }
-    ensures { result ≡ barred_at seams.now i }
-{
-    mark(seams, i) == 1
-}
-
-// The component at one place of three columns.
-pub fn component(heights: &[u16], widths: &[u16], seams: &[u16], i: usize) -> Component
-    requires { InLists i heights.now widths.now seams.now }
-    ensures value { result ≡ component_in heights.now widths.now seams.now i }
+// The component that the piece stands for.
+pub fn component(stack: &[Piece], i: usize) -> Component
+    requires { i < length stack.now }
+    ensures value { result ≡ columns stack.now component_in i }
     ensures height_bound { result.height.0 < 65536 }
 {
-    Component {
-        height: Rows(get(heights, i)),
-        width: Slices(get(widths, i)),
-        gap: Rows(gap(seams, i)),
-        mark: mark(seams, i),
-    }
+    Component::from(stack[i])
 }
 
 pub fn cell(table: &[u32], p: usize, q: usize) -> u32
@@ -72,22 +61,4 @@ pub fn cell(table: &[u32], p: usize, q: usize) -> u32
     ensures { result ≡ get_or table.now (p * stride + q) 0 }
 {
     table[p * STRIDE + q]
-}
-
-pub fn lesser(a: u32, b: u32) -> u32
-    ensures { result ≡ min a b }
-{
-    if a < b {
-        return a;
-    }
-    b
-}
-
-pub fn larger(a: u32, b: u32) -> u32
-    ensures { result ≡ max a b }
-{
-    if a < b {
-        return b;
-    }
-    a
 }

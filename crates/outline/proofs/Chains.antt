@@ -8,11 +8,8 @@ use native.Mathlib.Omega.{arith}
 use lib.ListN.{length}
 use Rattle.folding.specs.Outline.{greatest}
 use Rattle.folding.specs.Asks.{side_at, start_at, end_at}
-use Rattle.outline.specs.Inner.{StandsAt, Lefts, GroupFlat, Chains}
+use Rattle.outline.specs.Inner.{Lefts, GroupFlat, Chains}
 use Rattle.folding.proofs.Rows.{greatest_le, greatest_ge}
-
-pub stands_at : {hs flat : List ℕ} → GroupFlat hs flat → (i : ℕ) → i < length hs → StandsAt hs flat i
-stands_at v i h = (h, omega (arith, v.few), omega (arith, v.flat_long), v.low i h)
 
 module _ {hs flat : List ℕ} (v : GroupFlat hs flat) {k : ℕ} (l : Lefts flat (length hs) k) where
   falls_from : (d i j : ℕ) → j ≡ i + suc d → j < k → end_at hs flat j ≤ start_at flat i

@@ -8,7 +8,6 @@ use native.Mathlib.Omega.{arith}
 use lib.ListN.{length, get_or, drop}
 use lib.Dec.{leb}
 use borrow.Author.Tests.{leb-true}
-use borrow.Author.Count.{below_more}
 use Rattle.terms.specs.declared.Kind.{Kind}
 use Rattle.terms.specs.Component.{tabulate}
 use Rattle.terms.proofs.Bools.{both, and_is}
@@ -17,10 +16,6 @@ use Rattle.folding.specs.declared.Placed.{Placed}
 use Rattle.folding.specs.Placement.{group_of, start_of, left}
 use Rattle.folding.specs.Legal.{each, each_pair, in_range, in_order, left_first, left_clear, right_clear, legal}
 use Rattle.folding.proofs.Rules.{Within, Next, within, opens, next_is, legal_is, legal_holds}
-
--- What holds below i, and at i, holds below i + 1; here from a lower end on.
-pub from_more : (P : ℕ → Type 0) (lo i : ℕ) → ((k : ℕ) → lo ≤ k → k < i → P k) → P i → (k : ℕ) → lo ≤ k → k < i + 1 → P k
-from_more P lo i all here k h l = below_more (λ j. lo ≤ j → P j) i (λ j m g. all j g m) (λ g. here) k l h
 
 -- What the rules of a legal folding say at an index.
 module _ (g : ℕ → Placed) (n : ℕ) where

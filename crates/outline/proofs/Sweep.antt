@@ -9,7 +9,8 @@ use native.Mathlib.Decide.{dec_le, dec_lt}
 use native.Mathlib.Omega.{arith}
 use lib.ListN.{length, get_or}
 use lib.Dec.{leb, ltb}
-use borrow.Author.Tests.{leb-true, leb-false, ltb-true, lt-ltb, le-ltb, le-leb, lt-leb}
+use borrow.Author.Tests.{ltb-true, lt-ltb, le-ltb, le-leb, lt-leb}
+use Rattle.std.specs.Bool.{then_some}
 use Rattle.folding.specs.Outline.{top_of, row_sum}
 use Rattle.folding.specs.Asks.{placed_at, placed_in, start_at, end_at}
 use Rattle.outline.specs.Inner.{share_at, sum_at_start, most_width, Chains, NextStart, GroupWide, WidthIs}
@@ -66,13 +67,10 @@ module _ (hs ws flat : List ℕ) (i : ℕ) where
     | no l ↦ omega (arith, share_behind row (omega arith))
   ]
 
--- Of the next components to start, one on each side, the one that starts lower.
-pub lower_next : (flat : List ℕ) (n low high : ℕ) → 0 < low → high < n → NextStart flat n low high (leb (start_at flat (low - 1)) (start_at flat high))
-lower_next flat n low high h l = go (leb (start_at flat (low - 1)) (start_at flat high)) refl
-  where
-    go : (b : Bool) → leb (start_at flat (low - 1)) (start_at flat high) ≡ b → NextStart flat n low high b
-    go true e = (h, λ m. leb-true _ _ e)
-    go false e = (l, λ m. omega (arith, leb-false (start_at flat (low - 1)) (start_at flat high) e))
+-- The sum where component i starts, where one on the other side has started or not.
+sum_across : (hs ws flat : List ℕ) (i other : ℕ) (b : Bool) → sum_at_start hs ws flat i (then_some b other) ≡ get_or ws i 0 + cond b (share_at hs ws flat (start_at flat i) other) 0
+sum_across hs ws flat i other true = refl
+sum_across hs ws flat i other false = omega arith
 
 -- The sum of a row, of the components from low up to high.
 abbrev pub started_sum : List ℕ → List ℕ → List ℕ → ℕ → ℕ → ℕ → ℕ
@@ -89,17 +87,6 @@ pub record Swept (hs ws flat : List ℕ) (k low high width : ℕ) : Type 0 where
   pub slim : width ≤ most_width
 
 module _ {hs ws flat : List ℕ} {k : ℕ} (v : GroupWide hs ws flat) (sides : Chains hs flat k) where
-  pub sweep_start : Swept hs ws flat k k k 0
-  sweep_start = record {
-    below = omega arith;
-    above = omega arith;
-    inside = sides.within;
-    under_left = λ h j a b. absurd (omega arith);
-    under_right = λ h j a b. absurd (omega arith);
-    peak = record { most = λ row. omega arith; row = 0; reached = omega arith };
-    slim = omega arith;
-  }
-
   module _ {low high width : ℕ} (p : Swept hs ws flat k low high width) where
     -- Component i starts above all that have started.
     joins : (i : ℕ) → i < length hs → ((j : ℕ) → low ≤ j → j < high → start_at flat j ≤ start_at flat i) → (f : ℕ → ℕ) → ((row : ℕ) → f row ≡ started_sum hs ws flat low high row + share_at hs ws flat row i)
@@ -131,7 +118,7 @@ module _ {hs ws flat : List ℕ} {k : ℕ} (v : GroupWide hs ws flat) (sides : C
     grows row = total_grows (share_at hs ws flat row) low high (omega (arith, p.below, p.above))
 
     -- The next on the left.
-    pub sweep_left : NextStart flat (length hs) low high true → {sum width' : ℕ} → sum ≡ sum_at_start hs ws flat (low - 1) (high - 1) (ltb k high) → sum ≤ most_width → width' ≡ max width sum → Swept hs ws flat k (low - 1) high width'
+    pub sweep_left : NextStart flat (length hs) low high true → {sum width' : ℕ} → sum ≡ sum_at_start hs ws flat (low - 1) (then_some (ltb k high) (high - 1)) → sum ≤ most_width → width' ≡ max width sum → Swept hs ws flat k (low - 1) high width'
     sweep_left n {sum} {width'} e most m = record {
       below = omega (arith, p.below);
       above = p.above;
@@ -144,7 +131,7 @@ module _ {hs ws flat : List ℕ} {k : ℕ} (v : GroupWide hs ws flat) (sides : C
         | yes l ↦ let z : j ≡ low - 1 = omega arith in rw z (n.1 h)
         | no l ↦ p.under_right h j (omega arith) b
       ];
-      peak = rw (m ∙ ap (max width) (e ∙ ap (λ (x : ℕ). get_or ws (low - 1) 0 + x) (sym others))) (joins (low - 1) (omega (arith, n.0, p.below, sides.within)) (p.under_left n.0) (started_sum hs ws flat (low - 1) high) more);
+      peak = rw (m ∙ ap (max width) (e ∙ sum_across hs ws flat (low - 1) (high - 1) (ltb k high) ∙ ap (λ (x : ℕ). get_or ws (low - 1) 0 + x) (sym others))) (joins (low - 1) (omega (arith, n.0, p.below, sides.within)) (p.under_left n.0) (started_sum hs ws flat (low - 1) high) more);
       slim = omega (arith, p.slim);
     }
       where
@@ -161,7 +148,7 @@ module _ {hs ws flat : List ℕ} {k : ℕ} (v : GroupWide hs ws flat) (sides : C
         more row = let z : low - 1 + 1 ≡ low = omega (arith, n.0) in omega (arith, grows row, rw z at (total_more (share_at hs ws flat row) (low - 1)))
 
     -- The next on the right.
-    pub sweep_right : NextStart flat (length hs) low high false → {sum width' : ℕ} → sum ≡ sum_at_start hs ws flat high low (ltb low k) → sum ≤ most_width → width' ≡ max width sum → Swept hs ws flat k low (high + 1) width'
+    pub sweep_right : NextStart flat (length hs) low high false → {sum width' : ℕ} → sum ≡ sum_at_start hs ws flat high (then_some (ltb low k) low) → sum ≤ most_width → width' ≡ max width sum → Swept hs ws flat k low (high + 1) width'
     sweep_right n {sum} {width'} e most m = record {
       below = p.below;
       above = omega (arith, p.above);
@@ -174,7 +161,7 @@ module _ {hs ws flat : List ℕ} {k : ℕ} (v : GroupWide hs ws flat) (sides : C
         | yes l ↦ omega (arith, p.under_right n.0 j a l)
         | no l ↦ let z : j ≡ high = omega arith in rw z (omega arith)
       ];
-      peak = rw (m ∙ ap (max width) (e ∙ ap (λ (x : ℕ). get_or ws high 0 + x) (sym others))) (joins high n.0 (p.under_right n.0) (started_sum hs ws flat low (high + 1)) more);
+      peak = rw (m ∙ ap (max width) (e ∙ sum_across hs ws flat high low (ltb low k) ∙ ap (λ (x : ℕ). get_or ws high 0 + x) (sym others))) (joins high n.0 (p.under_right n.0) (started_sum hs ws flat low (high + 1)) more);
       slim = omega (arith, p.slim);
     }
       where

@@ -1,11 +1,13 @@
 -- The outline, group after group: what one turn of the walk adds, and what is left.
 use Prim.Native.Nat.{ℕ, suc, ◌+◌, ◌-◌, ◌*◌, ◌≤◌, ◌<◌, max}
 use mathlib.Core.Path.{◌≡◌, sym, ap, subst, ◌∙◌}
-use mathlib.Core.List.{List, ◌∷◌}
+use mathlib.Core.List.{List, ◌∷◌, map}
 use native.Mathlib.Omega.{arith}
 use lib.ListN.{length, get_or, take, drop, length-drop}
 use lib.Seq.{get_or-take, get_or-drop, length-take-le}
 use borrow.Author.Tests.{eqb-true, eqb-false}
+use Rattle.std.proofs.lemmas.List.{take-map, drop-map}
+use Rattle.terms.specs.declared.Piece.{Piece}
 use Rattle.terms.specs.Component.{tabulate}
 use Rattle.terms.specs.Seams.{gap_at}
 use Rattle.terms.proofs.Tabulate.{tabulate_same, tabulate_end}
@@ -26,6 +28,10 @@ part_length a e l h k = length-take-le (e - a) (drop a l) (omega (arith, length-
 
 part_at : (a e j : ℕ) (l : List ℕ) → j < e - a → get_or (part a e l) j 0 ≡ get_or l (a + j) 0
 part_at a e j l h = get_or-take (e - a) (drop a l) j 0 h ∙ get_or-drop a l j 0
+
+-- A column of a part of a stack is that part of the column.
+pub map_part : (f : Piece → ℕ) (a e : ℕ) (s : List Piece) → map f (take (e - a) (drop a s)) ≡ part a e (map f s)
+map_part f a e s = rw (drop-map, take-map)
 
 -- What is found so far, of the components before `from`, and what is left.
 pub record Walked (hs ws seams flat : List ℕ) (width height before from : ℕ) : Type 0 where

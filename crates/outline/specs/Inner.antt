@@ -1,5 +1,5 @@
 -- What the functions inside this crate promise each other.
-use Rattle.std.specs.Prelude.{ℕ, ◌+◌, ◌-◌, ◌*◌, ◌≤◌, ◌<◌, ◌≡◌, List, Bool, true, false, cond, ◌&&◌, length, get_or, leb, ltb}
+use Rattle.std.specs.Prelude.{ℕ, ◌+◌, ◌-◌, ◌*◌, ◌≤◌, ◌<◌, ◌≡◌, List, Bool, true, false, cond, Option, None, Some, ◌&&◌, length, get_or, leb, ltb}
 use Rattle.terms.specs.Numbers.{most_apart}
 use Rattle.folding.specs.declared.Outline.{Outline}
 use Rattle.folding.specs.Legal.{most_start}
@@ -11,8 +11,9 @@ abbrev pub share_at : List ℕ → List ℕ → List ℕ → ℕ → ℕ → ℕ
 share_at hs ws flat row i = cond (leb (start_at flat i) row && ltb row (end_at hs flat i)) (get_or ws i 0) 0
 
 -- The sum of the row where component i starts: on its side it is alone there, and on the other side at most one lies there.
-abbrev pub sum_at_start : List ℕ → List ℕ → List ℕ → ℕ → ℕ → Bool → ℕ
-sum_at_start hs ws flat i other across = get_or ws i 0 + cond across (share_at hs ws flat (start_at flat i) other) 0
+abbrev pub sum_at_start : List ℕ → List ℕ → List ℕ → ℕ → Option ℕ → ℕ
+sum_at_start hs ws flat i None = get_or ws i 0
+sum_at_start hs ws flat i (Some other) = get_or ws i 0 + share_at hs ws flat (start_at flat i) other
 
 -- Two widths of 16 bits.
 abbrev pub most_width : ℕ

@@ -1,9 +1,8 @@
 pub mod Columns
-pub mod Gaps
+pub mod Sizing
 pub mod Bests
 pub mod Trying
 pub mod Scanning
 pub mod Remembering
 pub mod Planning
 pub mod Outlines
-pub mod Sizing

@@ -1,4 +1,4 @@
--- A stack in lists is planned in lists of 257 numbers.
+-- A stack is planned in 257 entries.
 use Prim.Native.Nat.{ℕ, ◌≤◌}
 use mathlib.Core.Path.{◌≡◌}
 use mathlib.Core.List.{List}

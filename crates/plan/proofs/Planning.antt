@@ -5,12 +5,12 @@ use mathlib.Core.Logic.{◌⊎◌, inl, inr}
 use mathlib.Core.List.{List, []}
 use native.Mathlib.Nat.{eq-or-lt_of_le}
 use native.Mathlib.Omega.{arith}
-use lib.ListN.{length, get_or, take, drop, set, length-drop}
+use lib.ListN.{length, get_or, drop, set, length-drop}
 use lib.Seq.{get_or-drop, get_or-set_same, get_or-set_other}
 use Rattle.terms.specs.declared.Component.{Component}
 use Rattle.terms.specs.declared.Kind.{Kind}
-use Rattle.terms.specs.Seams.{component_in, components_in}
-use Rattle.terms.proofs.Parts.{from}
+use Rattle.terms.proofs.Answers.{most_256}
+use Rattle.terms.specs.Seams.{gap_at, component_in, components_in}
 use Rattle.group.specs.Rows.{gap}
 use Rattle.group.specs.Group.{may_stand}
 use Rattle.group.proofs.Ways.{suits}
@@ -18,16 +18,18 @@ use Rattle.model.proofs.Falling.{layouts_fall}
 use Rattle.model.specs.Layout.{candidate_for}
 use Rattle.model.proofs.Scan.{layouts-drop, layouts_end}
 use Rattle.layout.specs.Layout.{Layout, unmet, empty, groups, layouts, layout_of}
-use Rattle.layout.specs.Table.{outline}
 use Rattle.layout.specs.Plan.{PlannedAt}
-use Rattle.plan.specs.declared.Best.{Best}
-use Rattle.plan.specs.Asks.{layout_in, Later, FirstAsks, FromAsks, PlanAsks, PlannedFrom, PlanDone, gap_before, plan_room, KnownTo}
-use Rattle.plan.specs.Memory.{row_for, RowAsks, RowDone, RowRoom, Readied, Memory, EntryAsks, EntryDone, Known}
-use Rattle.plan.proofs.Remembering.{row_start, row_asks, row_room, rows_from, rows_to, rows_none, rows_known}
-use Rattle.plan.proofs.Gaps.{gap_near}
+use Rattle.layout.specs.declared.Entry.{Entry}
+use Rattle.plan.specs.Asks.{layout_in, Later, FirstAsks, FromAsks, PlanAsks, PlannedFrom, gap_before, plan_room, KnownTo}
+use Rattle.plan.specs.Memory.{most_row, RowAsks, RowDone, RowRoom, Readied, EntryAsks, EntryDone, Known}
+use Rattle.plan.proofs.Remembering.{row_start, row_asks, row_room, rows_from, rows_to, rows_none, rows_known, row_low}
 use Rattle.plan.proofs.Columns.{component_at_lem, gap_last}
 use Rattle.layout.proofs.Groups.{groups_laws}
 use Rattle.layout.proofs.Columns.{components_length, components_drop, lists_drop, good_lists}
+
+gap_near : (gs : List ℕ) (i : ℕ) → ((j : ℕ) → gap_at gs j ≤ 4000) → gap_before gs i ≤ 4000
+gap_near gs zero h = omega arith
+gap_near gs (suc i) h = h i
 
 module _ (kind : Kind) (limit : ℕ) where
   rest-drop : (hs ws gs : List ℕ) (i : ℕ) → i ≤ length hs
@@ -73,14 +75,11 @@ module _ {kind : Kind} {limit i : ℕ} {hs ws gs widths heights : List ℕ} (a :
   }
 
   module _ (g0 : ℕ) (eg : g0 ≡ gap_before gs i) where
-    pub first_asks : FirstAsks kind limit g0 (take (length hs - i) (drop i hs)) (take (length ws - i) (drop i ws)) (take (length gs - i) (drop i gs)) (take (length widths - (i + 1)) (drop (i + 1) widths)) (take (length heights - (i + 1)) (drop (i + 1) heights))
-    first_asks = rw (from i hs, from i ws, from i gs, from (i + 1) widths, from (i + 1) heights, eg) first_drops
+    pub first_asks : FirstAsks kind limit g0 (drop i hs) (drop i ws) (drop i gs) (drop (i + 1) widths) (drop (i + 1) heights)
+    first_asks = rw eg first_drops
 
-    pub first_is : (r : Layout) → r ≡ layout_of kind limit g0 (components_in (take (length hs - i) (drop i hs)) (take (length ws - i) (drop i ws)) (take (length gs - i) (drop i gs)))
-        → r ≡ get_or (layouts kind limit 0 (components_in hs ws gs)) i unmet
-    first_is r e =
-        e
-        ∙ rw (from i hs, from i ws, from i gs, eg) (rest_at 0 ∙ ap (λ (z : ℕ). get_or all z unmet) (omega arith))
+    pub first_is : (r : Layout) → r ≡ layout_of kind limit g0 (components_in (drop i hs) (drop i ws) (drop i gs)) → r ≡ get_or (layouts kind limit 0 (components_in hs ws gs)) i unmet
+    first_is r e = e ∙ rw eg (rest_at 0 ∙ ap (λ (z : ℕ). get_or all z unmet) (omega arith))
 
 -- What is known in front of i outlives the entry i.
 known-set : {kind : Kind} {known limit : ℕ} {cs : List Component} {widths heights ends : List ℕ} {to : ℕ} (i a b c : ℕ) → i ≤ to → KnownTo kind known limit cs widths heights ends to
@@ -139,22 +138,6 @@ module _ {kind : Kind} {limit : ℕ} {hs ws gs widths heights ends es : List ℕ
     rows_before = rows_known kind known limit hs ws gs es (λ l. (k l).1);
   }
 
-  pub all_rows : {known later : ℕ} → EntryDone kind known limit later hs ws gs widths heights ends es → later ≡ 0 → Memory kind limit hs ws gs es
-  all_rows d e = rw e at d.rows_behind
-
-  pub plan_done : {later : ℕ} → PlannedFrom kind limit (components_in hs ws gs) widths heights ends later → later ≡ 0
-      → PlanDone kind limit (components_in hs ws gs) widths heights ends (outline (get_or widths 0 0) (get_or heights 0 0))
-  plan_done s e =
-      let first = s.at 0 (omega arith) (omega arith) in
-      record { planned = record { at = λ j h. s.at j (omega arith) h }; outlined = rw (first.width_is, first.height_is) }
-
-pub entry_asks : {kind : Kind} {known limit later : ℕ} {hs ws gs widths heights ends es : List ℕ} (i row : ℕ) → PlanAsks kind limit hs ws gs widths heights ends es
-    → EntryDone kind known limit later hs ws gs widths heights ends es → later ≤ length hs → i + 1 ≡ later → row ≡ row_for (length hs - later + 1) → EntryAsks kind known limit i row hs ws gs widths heights ends es
-entry_asks {later = later} {hs = hs} i row a d l e r =
-    let z : suc i ≡ later = omega arith in
-    let y : length hs - later + 1 ≡ length hs - i = omega arith in
-    record { asks = a; within = omega arith; row_is = rw y at r; behind = rw z d.behind; before = rw z d.before; rows_behind = rw z d.rows_behind; rows_before = rw z d.rows_before }
-
 module _ {kind : Kind} {known limit i row : ℕ} {hs ws gs widths heights ends es : List ℕ} (a : EntryAsks kind known limit i row hs ws gs widths heights ends es) where
   pub from_asks : FromAsks kind limit i hs ws gs widths heights
   from_asks = record {
@@ -168,7 +151,7 @@ module _ {kind : Kind} {known limit i row : ℕ} {hs ws gs widths heights ends e
   }
 
   -- The entry is searched.
-  plan_more : (b : Best) → layout_in b ≡ get_or (layouts kind limit 0 (components_in hs ws gs)) i unmet
+  plan_more : (b : Entry) → layout_in b ≡ get_or (layouts kind limit 0 (components_in hs ws gs)) i unmet
       → PlannedFrom kind limit (components_in hs ws gs) (set widths i b.width.0) (set heights i b.height.0) (set ends i b.end) i
   plan_more b f = record { at = λ j h k. go j k (eq-or-lt_of_le h) }
     where
@@ -183,7 +166,7 @@ module _ {kind : Kind} {known limit i row : ℕ} {hs ws gs widths heights ends e
           let n : j ≡ i → ⊥ = λ z. omega arith in
           rw (get_or-set_other widths i j b.width.0 0 n, get_or-set_other heights i j b.height.0 0 n, get_or-set_other ends i j b.end 0 n) (a.behind.at j q k)
 
-  known_more : (b : Best) → KnownTo kind known limit (components_in hs ws gs) (set widths i b.width.0) (set heights i b.height.0) (set ends i b.end) i
+  known_more : (b : Entry) → KnownTo kind known limit (components_in hs ws gs) (set widths i b.width.0) (set heights i b.height.0) (set ends i b.end) i
   known_more b = known-set i b.width.0 b.height.0 b.end (omega arith) a.before
 
   -- It stays as it is.
@@ -207,8 +190,11 @@ module _ {kind : Kind} {known limit i row : ℕ} {hs ws gs widths heights ends e
     known_stays = record { at = λ l j h. a.before.at l j (omega arith) }
 
   -- The row of its first groups.
-  pub entry_room : (es' : List ℕ) → length es' ≡ length es → RowRoom kind row (length hs - i) es'
-  entry_room es' l = rw a.row_is (row_room hs ws gs i a.within kind es' (omega (arith, a.asks.room)) a.asks.lists.few)
+  pub entry_room : RowRoom kind row (length hs - i) es
+  entry_room = rw a.row_is (row_room hs ws gs i a.within kind es a.asks.room a.asks.lists.few)
+
+  pub row_most : row ≤ most_row
+  row_most = omega (arith, a.row_is, row_low (length hs - i) (omega (arith, a.asks.lists.few, most_256 kind)))
 
   module _ (mid : List ℕ) (r : Readied kind known limit es mid row (length hs - i)) where
     pub entry_row : RowAsks kind limit (gap_before gs i) (drop i hs) (drop i ws) (drop i gs) mid row
@@ -225,7 +211,7 @@ module _ {kind : Kind} {known limit i row : ℕ} {hs ws gs widths heights ends e
           rows_before = rows_to hs ws gs i a.within kind known limit es mid mid (rw a.row_is at r) d a.rows_before;
         }
 
-    pub entry_more : (new : List ℕ) (b : Best) → layout_in b ≡ get_or (layouts kind limit 0 (components_in hs ws gs)) i unmet → RowDone kind limit (gap_before gs i) (drop i hs) (drop i ws) (drop i gs) mid new row
+    pub entry_more : (new : List ℕ) (b : Entry) → layout_in b ≡ get_or (layouts kind limit 0 (components_in hs ws gs)) i unmet → RowDone kind limit (gap_before gs i) (drop i hs) (drop i ws) (drop i gs) mid new row
         → EntryDone kind known limit i hs ws gs (set widths i b.width.0) (set heights i b.height.0) (set ends i b.end) new
     entry_more new b f d = record {
       behind = plan_more b f;

@@ -1,30 +1,24 @@
 -- What is remembered of groups: a word, a row of words, all rows.
 use Prim.Native.Nat.{ℕ, zero, suc, ◌+◌, ◌-◌, ◌*◌, ◌≤◌, ◌<◌}
-use mathlib.Core.Path.{◌≡◌, refl, sym, ap, ◌∙◌, subst}
+use mathlib.Core.Path.{◌≡◌, refl, ap, ◌∙◌, subst}
 use mathlib.Core.Logic.{◌⊎◌, inl, inr}
 use mathlib.Core.List.{List}
 use native.Mathlib.Nat.{eq-or-lt_of_le}
 use native.Mathlib.Omega.{arith}
-use lib.ListN.{length, get_or, take, drop, set, length-set, length-drop}
-use lib.Seq.{get_or-set_same, get_or-set_other}
+use lib.ListN.{length, get_or, take, drop, length-drop}
 use Rattle.numbers.specs.Table.{cells}
 use Rattle.terms.proofs.Order.{order}
-use Rattle.terms.proofs.Parts.{from}
+use Rattle.std.proofs.lemmas.List.{take-map}
 use Rattle.terms.specs.declared.Kind.{Kind}
+use Rattle.terms.specs.declared.Piece.{Piece}
+use Rattle.terms.specs.Pieces.{heights_in, widths_in, seams_in, columns}
+use Rattle.terms.proofs.Pieces.{heights_length}
 use Rattle.terms.specs.declared.Kind.TheVariants.{Apart, Nested}
-use Rattle.group_memory.specs.Memory.{unknown, Holds}
+use Rattle.group_memory.specs.Memory.{Holds}
 use Rattle.group_memory.proofs.Memory.{holds_lower, holds_nothing}
 use Rattle.terms.specs.Component.{most_of}
 use Rattle.plan.specs.Asks.{plan_room, gap_before}
-use Rattle.plan.specs.Memory.{widest_in, WordAsks, WordDone, RowHolds, RowKept, RowAsks, RowDone, Forgotten, RowRoom, Readied, row_for, most_row, RowAt, RowsFrom, RowsTo}
-
--- A group that is not searched.
-pub word_kept : {limit g0 at : ℕ} {hs ws gs es : List ℕ} → WordAsks Nested limit g0 hs ws gs es at → WordDone Nested limit g0 hs ws gs es es at
-word_kept w = record { holds = w.2; others = λ k h n. refl }
-
-pub word_left : (kind : Kind) (limit g0 at : ℕ) (hs ws gs es : List ℕ) → WordAsks kind limit g0 hs ws gs es at → WordDone kind limit g0 hs ws gs es es at
-word_left Apart limit g0 at hs ws gs es w = tt
-word_left Nested limit g0 at hs ws gs es w = word_kept w
+use Rattle.plan.specs.Memory.{widest_in, WordAsks, WordDone, RowHolds, RowKept, RowAsks, RowDone, RowRoom, Readied, row_for, most_row, RowAt, RowsFrom, RowsTo}
 
 -- Rows that nothing is done to, one after another.
 pub kept_none : (es : List ℕ) (row n : ℕ) → RowKept es es row n
@@ -50,58 +44,43 @@ module _ (limit g0 row : ℕ) (hs ws gs : List ℕ) where
   row_start Apart es r = tt
   row_start Nested es r = (r, kept_none es row (length hs))
 
-  pub row_ready : (kind : Kind) (old es : List ℕ) → RowDone kind limit g0 hs ws gs old es row → RowAsks kind limit g0 hs ws gs es row
-  row_ready Apart old es r = tt
-  row_ready Nested old es r = r.0
+-- The word of the first j + 1 components in the row of a stack.
+module _ (limit g0 row : ℕ) (s : List Piece) (j : ℕ) (h : j < length s) where
+  pub row_word : (kind : Kind) (old es : List ℕ) → columns s (RowDone kind limit g0) old es row → columns (take (j + 1) s) (WordAsks kind limit g0) es (row + j)
+  row_word Apart old es r = tt
+  row_word Nested old es r = (omega (arith, r.0.behind), omega (arith, r.0.within, heights_length s), simp take-map at (r.0.holds j (omega (arith, heights_length s))))
 
-  pub row_again : (kind : Kind) (old mid new : List ℕ) → RowDone kind limit g0 hs ws gs old mid row → RowDone kind limit g0 hs ws gs mid new row → RowDone kind limit g0 hs ws gs old new row
-  row_again Apart old mid new p q = tt
-  row_again Nested old mid new p q = (q.0, kept_again p.1 q.1)
+  pub row_more : (kind : Kind) (old es new : List ℕ) → length new ≡ length es → columns s (RowDone kind limit g0) old es row → columns (take (j + 1) s) (WordDone kind limit g0) es new (row + j)
+      → columns s (RowDone kind limit g0) old new row
+  row_more Apart old es new l r w = tt
+  row_more Nested old es new l r w = (
+    record {
+      behind = r.0.behind;
+      within = omega (arith, r.0.within);
+      holds = λ k u. go k u (order j k) (order k j);
+    },
+    kept_again r.1 (record {
+      long = l;
+      before = λ m c u. w.others m c (λ z. omega arith);
+      beyond = λ m u. w.others m (omega (arith, r.0.behind)) (λ z. omega (arith, heights_length s));
+    }),
+  )
+    where
+      Word : ℕ → Type 0
+      Word k =
+          Holds g0 (take (k + 1) (heights_in s)) (take (k + 1) (widths_in s)) (take (k + 1) (seams_in s)) limit
+          (widest_in (take (k + 1) (heights_in s)) (take (k + 1) (widths_in s)) (take (k + 1) (seams_in s))) (get_or new (row + k) 0)
 
-  module _ (j : ℕ) (h : j < length hs) where
-    pub row_word : (kind : Kind) (old es : List ℕ) → RowDone kind limit g0 hs ws gs old es row → WordAsks kind limit g0 (take (j + 1) hs) (take (j + 1) ws) (take (j + 1) gs) es (row + j)
-    row_word Apart old es r = tt
-    row_word Nested old es r = (omega (arith, r.0.behind), omega (arith, r.0.within), r.0.holds j h)
+      word : Word j
+      word = simp take-map w.holds
 
-    pub row_more : (kind : Kind) (old es new : List ℕ) → length new ≡ length es → RowDone kind limit g0 hs ws gs old es row
-        → WordDone kind limit g0 (take (j + 1) hs) (take (j + 1) ws) (take (j + 1) gs) es new (row + j) → RowDone kind limit g0 hs ws gs old new row
-    row_more Apart old es new l r w = tt
-    row_more Nested old es new l r w = (
-      record {
-        behind = r.0.behind;
-        within = omega (arith, r.0.within);
-        holds = λ k u. go k u (order j k) (order k j);
-      },
-      kept_again r.1 (record {
-        long = l;
-        before = λ m c u. w.others m c (λ z. omega arith);
-        beyond = λ m u. w.others m (omega (arith, r.0.behind)) (λ z. omega arith);
-      }),
-    )
-      where
-        Word : ℕ → Type 0
-        Word k = Holds g0 (take (k + 1) hs) (take (k + 1) ws) (take (k + 1) gs) limit (widest_in (take (k + 1) hs) (take (k + 1) ws) (take (k + 1) gs)) (get_or new (row + k) 0)
+      other : (k : ℕ) → k < length (heights_in s) → (row + k ≡ row + j → ⊥) → Word k
+      other k u n = rw (w.others (row + k) (omega (arith, r.0.behind)) n) (r.0.holds k u)
 
-        other : (k : ℕ) → k < length hs → (row + k ≡ row + j → ⊥) → Word k
-        other k u n = rw (w.others (row + k) (omega (arith, r.0.behind)) n) (r.0.holds k u)
-
-        go : (k : ℕ) → k < length hs → (j ≤ k) ⊎ (k < j) → (k ≤ j) ⊎ (j < k) → Word k
-        go k u (inr p) q = other k u (λ z. omega arith)
-        go k u (inl p) (inr q) = other k u (λ z. omega arith)
-        go k u (inl p) (inl q) = let z : j ≡ k = omega arith in subst Word z w.holds
-
--- The group of the first k components, for a bound.
-module _ (kind : Kind) (limit g0 row : ℕ) (hs ws gs es : List ℕ) (k : ℕ) (some : 0 < k) (within : k ≤ length hs) where
-  last : k - 1 + 1 ≡ k
-  last = omega arith
-
-  pub bound_word : RowAsks kind limit g0 hs ws gs es row → WordAsks kind limit g0 (take k hs) (take k ws) (take k gs) es (row + (k - 1))
-  bound_word r = subst (λ (z : ℕ). WordAsks kind limit g0 (take z hs) (take z ws) (take z gs) es (row + (k - 1))) last (row_word limit g0 row hs ws gs (k - 1) (omega arith) kind es es (row_start limit g0 row hs ws gs kind es r))
-
-  pub bound_row : (new : List ℕ) → length new ≡ length es → RowAsks kind limit g0 hs ws gs es row → WordDone kind limit g0 (take k hs) (take k ws) (take k gs) es new (row + (k - 1)) → RowDone kind limit g0 hs ws gs es new row
-  bound_row new l r w =
-      row_more limit g0 row hs ws gs (k - 1) (omega arith) kind es es new l (row_start limit g0 row hs ws gs kind es r)
-      (subst (λ (z : ℕ). WordDone kind limit g0 (take z hs) (take z ws) (take z gs) es new (row + (k - 1))) (sym last) w)
+      go : (k : ℕ) → k < length (heights_in s) → (j ≤ k) ⊎ (k < j) → (k ≤ j) ⊎ (j < k) → Word k
+      go k u (inr p) q = other k u (λ z. omega arith)
+      go k u (inl p) (inr q) = other k u (λ z. omega arith)
+      go k u (inl p) (inl q) = let z : j ≡ k = omega arith in subst Word z word
 
 -- Where rows stand.
 row_next : (n : ℕ) → row_for (suc n) ≡ row_for n + n
@@ -146,20 +125,6 @@ row_on n i later row e h r =
     let y : n - later + 1 ≡ n - i = omega arith in
     let z : n - i + 1 ≡ suc (n - i) = omega arith in
     rw (z, row_next (n - i)) (omega (arith, r, ap row_for y))
-
--- The row of a part of a stack, as the part is lent.
-module _ (kind : Kind) (limit row i g0 : ℕ) (hs ws gs : List ℕ) (eg : g0 ≡ gap_before gs i) where
-  pub row_part : (es : List ℕ) → RowAsks kind limit (gap_before gs i) (drop i hs) (drop i ws) (drop i gs) es row
-      → RowAsks kind limit g0 (take (length hs - i) (drop i hs)) (take (length ws - i) (drop i ws)) (take (length gs - i) (drop i gs)) es row
-  row_part es r = rw (from i hs, from i ws, from i gs, eg) r
-
-  pub row_back : (old new : List ℕ) → RowDone kind limit g0 (take (length hs - i) (drop i hs)) (take (length ws - i) (drop i ws)) (take (length gs - i) (drop i gs)) old new row
-      → RowDone kind limit (gap_before gs i) (drop i hs) (drop i ws) (drop i gs) old new row
-  row_back old new r = rw (from i hs, from i ws, from i gs, eg) at r
-
-pub readied_same : (kind : Kind) (known limit : ℕ) (es : List ℕ) (row n : ℕ) → limit < known → Readied kind known limit es es row n
-readied_same Apart known limit es row n h = tt
-readied_same Nested known limit es row n h = (λ l. refl, λ l. absurd (omega arith))
 
 -- A row is made ready, and searched; the rows before and behind it stay.
 pub readied_kept : (known limit : ℕ) (old new : List ℕ) (row n : ℕ) → Readied Nested known limit old new row n → RowKept old new row n
@@ -235,21 +200,3 @@ rows_none Nested limit hs ws gs es = λ k h l. absurd (omega arith)
 pub rows_known : (kind : Kind) (known limit : ℕ) (hs ws gs es : List ℕ) → (limit < known → RowsFrom kind known hs ws gs es 0) → RowsTo kind known limit hs ws gs es (length hs)
 rows_known Apart known limit hs ws gs es m = tt
 rows_known Nested known limit hs ws gs es m = λ o k h. m o k (omega arith) h
-
--- Forgetting a row, word by word.
-pub forget_none : (es : List ℕ) (row : ℕ) → Forgotten es es row 0
-forget_none es row = record { words = λ m h l. absurd (omega arith); kept = kept_none es row 0 }
-
-pub forget_more : (old es : List ℕ) (row n : ℕ) → row + n < length es → Forgotten old es row n → Forgotten old (set es (row + n) unknown) row (n + 1)
-forget_more old es row n h f = record {
-  words = λ m a b. go m a b (order (row + n) m);
-  kept = record {
-    long = length-set es (row + n) unknown ∙ f.kept.long;
-    before = λ m c l. get_or-set_other es (row + n) m unknown 0 (λ z. omega arith) ∙ f.kept.before m c l;
-    beyond = λ m l. get_or-set_other es (row + n) m unknown 0 (λ z. omega arith) ∙ f.kept.beyond m (omega arith);
-  };
-}
-  where
-    go : (m : ℕ) → row ≤ m → m < row + (n + 1) → (row + n ≤ m) ⊎ (m < row + n) → get_or (set es (row + n) unknown) m 0 ≡ unknown
-    go m a b (inl p) = let z : m ≡ row + n = omega arith in rw z (get_or-set_same es (row + n) unknown 0 h)
-    go m a b (inr p) = get_or-set_other es (row + n) m unknown 0 (λ z. omega arith) ∙ f.words m a p

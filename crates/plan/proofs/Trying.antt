@@ -3,33 +3,34 @@ use Prim.Native.Nat.{ℕ, ◌+◌, ◌*◌, ◌-◌, ◌≤◌, ◌<◌, min, ma
 use mathlib.Core.Path.{◌≡◌, sym, ◌∙◌}
 use mathlib.Core.Logic.{◌⊎◌, inl, inr}
 use mathlib.Core.List.{List, []}
-use mathlib.Core.Bool.{true, false}
+use mathlib.Core.Bool.{Bool, true, false}
 use native.Mathlib.Omega.{arith}
 use lib.ListN.{length, take}
-use lib.Seq.{length-take-le}
-use Rattle.terms.specs.declared.Component.{Component}
 use Rattle.terms.specs.declared.Kind.{Kind}
 use Rattle.terms.specs.declared.Kind.TheVariants.{Apart, Nested}
+use Rattle.terms.specs.declared.Piece.{Piece}
+use Rattle.terms.specs.Pieces.{heights_in, widths_in, seams_in, stack_in}
+use Rattle.terms.proofs.Pieces.{heights_length}
 use Rattle.terms.specs.Seams.{gap_at, barred_at, component_in, components_in}
-use Rattle.group.specs.Rows.{tall}
 use Rattle.group.specs.Group.{none, unbarred, widest, flat_height, may_stand, least_width}
 use Rattle.terms.proofs.Order.{order}
 use Rattle.group.proofs.Ways.{SomeWay, suits, some_way, barred_end}
 use Rattle.group.proofs.Gaps.{gap_behind_all, unbarred_behind, unbarred_behind_all}
 use Rattle.group.proofs.Falls.{apart_height}
 use Rattle.group_search.specs.Widths.{Narrow}
-use Rattle.group_memory.specs.Memory.{MemoryAsks, Remembered}
-use Rattle.layout.specs.Layout.{Layout, groups, candidate, choice}
+use Rattle.group_memory.specs.Memory.{MemoryAsks}
+use Rattle.layout.specs.Layout.{Layout, groups, choice}
 use Rattle.layout.specs.Plan.{StackLists}
-use Rattle.plan.specs.declared.Best.{Best}
-use Rattle.plan.specs.Asks.{layout_in, GroupAsks}
-use Rattle.plan.specs.Memory.{WordAsks, WordDone}
-use Rattle.plan.proofs.Columns.{component_at_lem, widest_most}
+use Rattle.layout.specs.declared.Entry.{Entry}
+use Rattle.plan.specs.declared.Sizes.{Sizes}
+use Rattle.plan.specs.Asks.{layout_in, GroupAsks, tried}
+use Rattle.plan.specs.Memory.{WordAsks}
+use Rattle.plan.proofs.Columns.{component_at_lem, widest_most, stack_take}
 use Rattle.model.proofs.Choice.{choice_keeps, choice_unmet}
 use Rattle.model.proofs.Candidates.{candidate_is, group_unmet, skip_group, skip_rest}
 use Rattle.layout.proofs.Widths.{apart_met, apart_unmet}
 use Rattle.layout.proofs.Prune.{skip_widest, skip_both}
-use Rattle.layout.proofs.Columns.{components_length, components_take, sized_lists}
+use Rattle.layout.proofs.Columns.{components_length, sized_lists}
 use Rattle.layout.proofs.Widest.{widest_some}
 
 pub widest_4000 : (kind : Kind) (hs ws gs : List ℕ) → StackLists kind hs ws gs → widest (components_in hs ws gs) ≤ 4000
@@ -37,11 +38,11 @@ widest_4000 kind hs ws gs s =
     widest_most (components_in hs ws gs) (component_in [] [] [] 0) 4000
     (λ i h. rw (component_at_lem hs ws gs i (omega (arith, components_length hs ws gs))) (s.slim i))
 
-module _ {kind : Kind} {limit g0 wide : ℕ} {hs ws gs : List ℕ} {best rest : Best} (a : GroupAsks kind limit g0 wide hs ws gs best rest) where
-  pub wide_4000 : wide ≤ 4000
+module _ {kind : Kind} {limit g0 : ℕ} {z : Sizes} {hs ws gs : List ℕ} {best rest : Entry} (a : GroupAsks kind limit g0 z hs ws gs best rest) where
+  pub wide_4000 : z.widest.0 ≤ 4000
   wide_4000 = omega (arith, a.widest_is, widest_4000 kind hs ws gs a.lists)
 
-  pub wide_some : 0 < wide
+  pub wide_some : 0 < z.widest.0
   wide_some = omega (arith, a.widest_is, widest_some (components_in hs ws gs) (sized_lists a.lists) (omega (arith, components_length hs ws gs, a.some)))
 
   pub best_low : best.width.0 ≤ none
@@ -51,11 +52,11 @@ module _ {kind : Kind} {limit g0 wide : ℕ} {hs ws gs : List ℕ} {best rest : 
       go (inl p) = omega arith
       go (inr p) = omega (arith, p.0)
 
-  flat_is : (rows last : ℕ) → rows ≡ tall (components_in hs ws gs) → last ≡ gap_at gs (length hs - 1) → rows + g0 + last ≡ flat_height g0 (components_in hs ws gs)
-  flat_is rows last t l = omega (arith, gap_behind_all hs ws gs a.some)
+  flat_is : (last : ℕ) → last ≡ gap_at gs (length hs - 1) → z.tall.0 + g0 + last ≡ flat_height g0 (components_in hs ws gs)
+  flat_is last l = omega (arith, a.tall_is, gap_behind_all hs ws gs a.some)
 
   -- A group that would end behind a barred component is none.
-  pub barred_tried : barred_at gs (length hs - 1) ≡ true → layout_in best ≡ choice (candidate kind limit g0 (components_in hs ws gs) (layout_in rest) (length hs)) (layout_in best)
+  pub barred_tried : barred_at gs (length hs - 1) ≡ true → layout_in best ≡ tried kind limit g0 hs ws gs best rest
   barred_tried e =
       let u : unbarred (components_in hs ws gs) ≡ false = unbarred_behind_all hs ws gs a.some ∙ rw e in
       sym (skip_group (groups kind) limit g0 true (components_in hs ws gs) (layout_in rest) (length hs) (layout_in best) a.fair (omega (arith, barred_end kind (components_in hs ws gs) g0 limit u)))
@@ -63,53 +64,53 @@ module _ {kind : Kind} {limit g0 wide : ℕ} {hs ws gs : List ℕ} {best rest : 
   pub free_end : barred_at gs (length hs - 1) ≡ false → unbarred (components_in hs ws gs) ≡ true
   free_end e = unbarred_behind_all hs ws gs a.some ∙ rw e
 
-  pub rest_none : none ≤ rest.width.0 → layout_in best ≡ choice (candidate kind limit g0 (components_in hs ws gs) (layout_in rest) (length hs)) (layout_in best)
+  pub rest_none : none ≤ rest.width.0 → layout_in best ≡ tried kind limit g0 hs ws gs best rest
   rest_none h = sym (skip_rest (groups kind) limit g0 true (components_in hs ws gs) (layout_in rest) (length hs) (layout_in best) a.fair h)
 
 -- Without a fold.
-module _ {limit g0 wide : ℕ} {hs ws gs : List ℕ} {best rest : Best} (a : GroupAsks Apart limit g0 wide hs ws gs best rest) (rows last : ℕ)
-    (t : rows ≡ tall (components_in hs ws gs)) (l : last ≡ gap_at gs (length hs - 1)) (free : unbarred (components_in hs ws gs) ≡ true) where
+module _ {limit g0 : ℕ} {z : Sizes} {hs ws gs : List ℕ} {best rest : Entry} (a : GroupAsks Apart limit g0 z hs ws gs best rest) (last : ℕ)
+    (l : last ≡ gap_at gs (length hs - 1)) (free : unbarred (components_in hs ws gs) ≡ true) where
   some_in : SomeWay (may_stand Apart) (components_in hs ws gs)
   some_in = some_way Apart (components_in hs ws gs) (omega (arith, components_length hs ws gs, a.some)) free
 
-  flat : flat_height g0 (components_in hs ws gs) ≡ rows + g0 + last
-  flat = sym (flat_is a rows last t l)
+  flat : flat_height g0 (components_in hs ws gs) ≡ z.tall.0 + g0 + last
+  flat = sym (flat_is a last l)
 
-  pub flat_high : limit < rows + g0 + last → layout_in best ≡ choice (candidate Apart limit g0 (components_in hs ws gs) (layout_in rest) (length hs)) (layout_in best)
+  pub flat_high : limit < z.tall.0 + g0 + last → layout_in best ≡ tried Apart limit g0 hs ws gs best rest
   flat_high h =
       sym (rw (group_unmet (groups Apart) limit g0 true (components_in hs ws gs) (layout_in rest) (length hs) (omega (arith, apart_unmet (may_stand Apart) (suits Apart) g0 (components_in hs ws gs) limit some_in (omega (arith, flat)))))
       (choice_unmet (layout_in best) a.fair))
 
-  flat_met : (r : Layout) (height end : ℕ) → rows + g0 + last ≤ limit → rest.width.0 < none → height ≡ max (rows + g0 + last) rest.height.0 → end ≡ length hs
-      → r ≡ choice (record { width = wide + rest.width.0; height = height; end = end }) (layout_in best)
-      → r ≡ choice (candidate Apart limit g0 (components_in hs ws gs) (layout_in rest) (length hs)) (layout_in best)
+  flat_met : (r : Layout) (height end : ℕ) → z.tall.0 + g0 + last ≤ limit → rest.width.0 < none → height ≡ max (z.tall.0 + g0 + last) rest.height.0 → end ≡ length hs
+      → r ≡ choice (record { width = z.widest.0 + rest.width.0; height = height; end = end }) (layout_in best)
+      → r ≡ tried Apart limit g0 hs ws gs best rest
   flat_met r height end h o eh ee er =
       let w : least_width Apart g0 (components_in hs ws gs) limit ≡ widest (components_in hs ws gs) = apart_met (may_stand Apart) (suits Apart) g0 (components_in hs ws gs) limit some_in (omega (arith, flat)) in
       rw (candidate_is (groups Apart) limit g0 true (components_in hs ws gs) (layout_in rest) (length hs) (omega (arith, w, widest_4000 Apart hs ws gs a.lists)) o, w, apart_height (may_stand Apart) g0 (components_in hs ws gs) (widest (components_in hs ws gs)) some_in (suits Apart), flat, ← a.widest_is, ← eh, ← ee) er
 
   -- Where the rest is none, what is made of it is wider than every layout.
-  flat_over : (r : Layout) (height end : ℕ) → none ≤ rest.width.0 → r ≡ choice (record { width = wide + rest.width.0; height = height; end = end }) (layout_in best)
-      → r ≡ choice (candidate Apart limit g0 (components_in hs ws gs) (layout_in rest) (length hs)) (layout_in best)
+  flat_over : (r : Layout) (height end : ℕ) → none ≤ rest.width.0 → r ≡ choice (record { width = z.widest.0 + rest.width.0; height = height; end = end }) (layout_in best)
+      → r ≡ tried Apart limit g0 hs ws gs best rest
   flat_over r height end o er =
-      er ∙ choice_keeps (record { width = wide + rest.width.0; height = height; end = end }) (layout_in best) (inl (omega (arith, best_low a, wide_some a))) ∙ rest_none a o
+      er ∙ choice_keeps (record { width = z.widest.0 + rest.width.0; height = height; end = end }) (layout_in best) (inl (omega (arith, best_low a, wide_some a))) ∙ rest_none a o
 
-  pub flat_tried : (r : Layout) (height end : ℕ) → rows + g0 + last ≤ limit → height ≡ max (rows + g0 + last) rest.height.0 → end ≡ length hs
-      → r ≡ choice (record { width = wide + rest.width.0; height = height; end = end }) (layout_in best)
-      → r ≡ choice (candidate Apart limit g0 (components_in hs ws gs) (layout_in rest) (length hs)) (layout_in best)
+  pub flat_tried : (r : Layout) (height end : ℕ) → z.tall.0 + g0 + last ≤ limit → height ≡ max (z.tall.0 + g0 + last) rest.height.0 → end ≡ length hs
+      → r ≡ choice (record { width = z.widest.0 + rest.width.0; height = height; end = end }) (layout_in best)
+      → r ≡ tried Apart limit g0 hs ws gs best rest
   flat_tried r height end h eh ee er = go (order none rest.width.0)
     where
-      go : (none ≤ rest.width.0) ⊎ (rest.width.0 < none) → r ≡ choice (candidate Apart limit g0 (components_in hs ws gs) (layout_in rest) (length hs)) (layout_in best)
+      go : (none ≤ rest.width.0) ⊎ (rest.width.0 < none) → r ≡ tried Apart limit g0 hs ws gs best rest
       go (inl o) = flat_over r height end o er
       go (inr o) = flat_met r height end h o eh ee er
 
 -- With the fold that makes it narrowest.
-module _ {limit g0 wide : ℕ} {hs ws gs : List ℕ} {best rest : Best} (a : GroupAsks Nested limit g0 wide hs ws gs best rest) where
+module _ {limit g0 : ℕ} {z : Sizes} {hs ws gs : List ℕ} {best rest : Entry} (a : GroupAsks Nested limit g0 z hs ws gs best rest) where
   abbrev w : ℕ
   w = least_width Nested g0 (components_in hs ws gs) limit
 
   module _ (es : List ℕ) (at : ℕ) (word : WordAsks Nested limit g0 hs ws gs es at) where
-    pub narrow_asks : (rows last cap : ℕ) → rows ≡ tall (components_in hs ws gs) → last ≡ gap_at gs (length hs - 1) → unbarred (components_in hs ws gs) ≡ true → wide ≤ cap → cap ≤ 2 * wide → MemoryAsks g0 (rows + g0 + last) hs ws gs es at limit wide cap
-    narrow_asks rows last cap t l free c d = record {
+    pub narrow_asks : (last cap : ℕ) → last ≡ gap_at gs (length hs - 1) → unbarred (components_in hs ws gs) ≡ true → z.widest.0 ≤ cap → cap ≤ 2 * z.widest.0 → MemoryAsks g0 (z.tall.0 + g0 + last) hs ws gs es at limit z.widest.0 cap
+    narrow_asks last cap l free c d = record {
       asks = record {
         asks = record {
           table = record { columns = record { same = a.lists.same_widths; low = a.lists.low; slim = a.lists.slim }; few = a.lists.few; room = omega (arith, word.0, word.1) };
@@ -124,45 +125,47 @@ module _ {limit g0 wide : ℕ} {hs ws gs : List ℕ} {best rest : Best} (a : Gro
         to = d;
         limit_low = a.limit_most;
       };
-      is_flat = flat_is a rows last t l;
+      is_flat = flat_is a last l;
       behind = word.0;
       within = word.1;
       holds = rw a.widest_is word.2;
     }
 
-    pub narrow_word : (new : List ℕ) → Remembered g0 hs ws gs es new at limit wide → WordDone Nested limit g0 hs ws gs es new at
-    narrow_word new r = rw a.widest_is at r
-
   -- From the width b on a layout with this rest is no better than the best one.
   module _ (b : ℕ) (from : (best.width.0 ≤ b) × (b ≤ best.width.0 → best.height.0 ≤ rest.height.0)) where
-    pub folds_wide : b ≤ rest.width.0 + wide → layout_in best ≡ choice (candidate Nested limit g0 (components_in hs ws gs) (layout_in rest) (length hs)) (layout_in best)
+    pub folds_wide : b ≤ rest.width.0 + z.widest.0 → layout_in best ≡ tried Nested limit g0 hs ws gs best rest
     folds_wide h =
         sym (skip_widest (λ last. may_stand Nested) limit g0 true (components_in hs ws gs) (layout_in rest) (length hs) (layout_in best) a.fair b from.0 from.1 (omega (arith, a.widest_is)))
 
-    module _ (cap nw nh : ℕ) (e : cap ≡ min (2 * wide) (b - 1 - rest.width.0)) (n : Narrow g0 hs ws gs limit cap nw nh) where
-      pub folds_none : none ≤ nw → layout_in best ≡ choice (candidate Nested limit g0 (components_in hs ws gs) (layout_in rest) (length hs)) (layout_in best)
+    module _ (cap nw nh : ℕ) (e : cap ≡ min (2 * z.widest.0) (b - 1 - rest.width.0)) (n : Narrow g0 hs ws gs limit cap nw nh) where
+      pub folds_none : none ≤ nw → layout_in best ≡ tried Nested limit g0 hs ws gs best rest
       folds_none h = sym (go (order w cap))
         where
-          go : (w ≤ cap) ⊎ (cap < w) → choice (candidate Nested limit g0 (components_in hs ws gs) (layout_in rest) (length hs)) (layout_in best) ≡ layout_in best
+          go : (w ≤ cap) ⊎ (cap < w) → tried Nested limit g0 hs ws gs best rest ≡ layout_in best
           go (inl p) = absurd (omega (arith, (n.within p).0, wide_4000 a))
           go (inr p) =
               skip_both (λ last. may_stand Nested) limit g0 true (components_in hs ws gs) (layout_in rest) (length hs) (layout_in best) a.fair b from.0 from.1 cap (omega (arith, a.widest_is)) p
 
       pub folds_tried : (r : Layout) (height end : ℕ) → rest.width.0 < none → nw < none → height ≡ max nh rest.height.0 → end ≡ length hs
           → r ≡ choice (record { width = nw + rest.width.0; height = height; end = end }) (layout_in best)
-          → r ≡ choice (candidate Nested limit g0 (components_in hs ws gs) (layout_in rest) (length hs)) (layout_in best)
+          → r ≡ tried Nested limit g0 hs ws gs best rest
       folds_tried r height end o h eh ee er = go (order w cap)
         where
-          go : (w ≤ cap) ⊎ (cap < w) → r ≡ choice (candidate Nested limit g0 (components_in hs ws gs) (layout_in rest) (length hs)) (layout_in best)
+          go : (w ≤ cap) ⊎ (cap < w) → r ≡ tried Nested limit g0 hs ws gs best rest
           go (inr p) = absurd (omega (arith, n.over p))
           go (inl p) =
               let f = n.within p in
               rw (candidate_is (groups Nested) limit g0 true (components_in hs ws gs) (layout_in rest) (length hs) (omega (arith, f.0)) o, ← f.0, ← f.1, ← eh, ← ee) er
 
--- The first k components of longer columns.
-pub first_tried : (kind : Kind) (limit g0 k : ℕ) (hs : List ℕ) (group : List Component) (rest best r : Layout) → k ≤ length hs
-    → r ≡ choice (candidate kind limit g0 group rest (length (take k hs))) best → r ≡ choice (candidate kind limit g0 group rest k) best
-first_tried kind limit g0 k hs group rest best r h e = rw (length-take-le k hs h) at e
+-- What is read at the last component of a stack.
+pub last_gap : (s : List Piece) {x : ℕ} → x ≡ gap_at (seams_in s) (length s - 1) → x ≡ gap_at (seams_in s) (length (heights_in s) - 1)
+last_gap s e = rw (heights_length s) e
 
-pub first_free : (hs ws gs : List ℕ) (k : ℕ) → 0 < k → k ≤ length hs → barred_at gs (k - 1) ≡ false → unbarred (components_in (take k hs) (take k ws) (take k gs)) ≡ true
-first_free hs ws gs k s h e = rw (components_take hs ws gs k h) (unbarred_behind hs ws gs k s h ∙ rw e)
+pub last_barred : (s : List Piece) {b : Bool} → barred_at (seams_in s) (length s - 1) ≡ b → barred_at (seams_in s) (length (heights_in s) - 1) ≡ b
+last_barred s e = rw (heights_length s) e
+
+-- The first components of a stack.
+pub first_free : (s : List Piece) (last : ℕ) → last < length s → barred_at (seams_in s) last ≡ false → unbarred (stack_in (take (last + 1) s)) ≡ true
+first_free s last h e =
+    let z : last + 1 - 1 ≡ last = omega arith in
+    rw (stack_take s (last + 1) (omega arith)) (unbarred_behind (heights_in s) (widths_in s) (seams_in s) (last + 1) (omega arith) (omega (arith, heights_length s)) ∙ rw (z, e))

@@ -13,29 +13,27 @@ use Rattle.folding.specs.declared.Outline.{Outline}
 use Rattle.layout.specs.Layout.{Layout, unmet, candidate, choice, scan, layouts, layout_of}
 use Rattle.layout.specs.Table.{outline}
 use Rattle.layout.specs.Plan.{StackLists, PlannedAt, Planned}
-use Rattle.plan.specs.declared.Best.{Best}
+use Rattle.layout.specs.declared.Entry.{Entry}
 use Rattle.plan.specs.declared.Sizes.{Sizes}
 
-abbrev pub layout_in : Best → Layout
+abbrev pub layout_in : Entry → Layout
 layout_in b = record { width = b.width.0; height = b.height.0; end = b.end }
 
--- One group, and the best layout so far, which the group may improve.
-pub record GroupAsks (kind : Kind) (limit g0 wide : ℕ) (hs ws gs : List ℕ) (best rest : Best) : Type 0 where
+-- One group with its sizes, and the best layout so far, which the group may improve.
+pub record GroupAsks (kind : Kind) (limit g0 : ℕ) (sizes : Sizes) (hs ws gs : List ℕ) (best rest : Entry) : Type 0 where
   pub lists : StackLists kind hs ws gs
   pub some : 0 < length hs
   pub limit_most : limit ≤ most_limit
   pub before : g0 ≤ most_size
-  pub widest_is : wide ≡ widest (components_in hs ws gs)
+  pub tall_is : sizes.tall.0 ≡ tall (components_in hs ws gs)
+  pub tall_low : sizes.tall.0 ≤ none
+  pub widest_is : sizes.widest.0 ≡ widest (components_in hs ws gs)
   pub fair : (best.width.0 < none) ⊎ ((best.width.0 ≡ none) × (best.height.0 ≤ none))
   pub rest_width : rest.width.0 ≤ none
 
--- The rows of the group's components without empty rows between them.
-abbrev pub Packed : ℕ → List ℕ → List ℕ → List ℕ → Type 0
-Packed rows hs ws gs = (rows ≡ tall (components_in hs ws gs)) × (rows ≤ none)
-
--- The best layout once the group of k components is tried in front of the rest.
-abbrev pub tried : Kind → ℕ → ℕ → ℕ → List ℕ → List ℕ → List ℕ → Best → Best → Layout
-tried kind limit g0 k hs ws gs best rest = choice (candidate kind limit g0 (components_in hs ws gs) (layout_in rest) k) (layout_in best)
+-- The best layout once the group is tried in front of the rest.
+abbrev pub tried : Kind → ℕ → ℕ → List ℕ → List ℕ → List ℕ → Entry → Entry → Layout
+tried kind limit g0 hs ws gs best rest = choice (candidate kind limit g0 (components_in hs ws gs) (layout_in rest) (length hs)) (layout_in best)
 
 -- No group with more rows than this in its components keeps the limit.
 abbrev pub most_rows : Kind → ℕ → ℕ
@@ -59,10 +57,6 @@ pub record SizesOf (hs ws : List ℕ) (k : ℕ) (r : Sizes) : Type 0 where
   pub tall_is : (gs : List ℕ) → r.tall.0 ≡ tall (take k (components_in hs ws gs))
   pub widest_is : (gs : List ℕ) → r.widest.0 ≡ widest (take k (components_in hs ws gs))
   pub low : r.tall.0 ≤ most_size * most_apart
-
--- A first group does not ask where the rest has its own groups.
-abbrev pub rest_at : List ℕ → List ℕ → ℕ → Best
-rest_at widths heights k = record { width = record { 0 = get_or widths k 0 }; height = record { 0 = get_or heights k 0 }; end = 0 }
 
 -- Two lists hold the best layouts behind 1, 2, 3 and so on components.
 pub record Later (kind : Kind) (limit g0 : ℕ) (cs : List Component) (widths heights : List ℕ) : Type 0 where
@@ -119,7 +113,7 @@ pub record PlannedFrom (kind : Kind) (limit : ℕ) (cs : List Component) (widths
 pub record KnownTo (kind : Kind) (known limit : ℕ) (cs : List Component) (widths heights ends : List ℕ) (i : ℕ) : Type 0 where
   pub at : limit < known → (j : ℕ) → j < i → PlannedAt (get_or (layouts kind known 0 cs) j unmet) (get_or widths j 0) (get_or heights j 0) (get_or ends j 0)
 
--- A stack in three lists, with room to plan it.
+-- A stack by its columns, with room to plan it.
 pub record Plannable (kind : Kind) (hs ws gs work : List ℕ) : Type 0 where
   pub lists : StackLists kind hs ws gs
   pub some : 0 < length hs
@@ -130,7 +124,7 @@ pub record Plannable (kind : Kind) (hs ws gs work : List ℕ) : Type 0 where
 abbrev pub best_at : Kind → ℕ → List Component → Outline
 best_at kind limit cs = outline (layout_of kind limit 0 cs).width (layout_of kind limit 0 cs).height
 
--- The lists hold the best layouts of the stack and of what is left of it, and the outline is that of the first.
+-- The plan holds the best layouts of the stack and of what is left of it, and the outline is that of the first.
 pub record PlanDone (kind : Kind) (limit : ℕ) (cs : List Component) (widths heights ends : List ℕ) (o : Outline) : Type 0 where
   pub planned : Planned kind limit 0 cs widths heights ends
   pub outlined : o ≡ best_at kind limit cs

@@ -83,7 +83,7 @@ RowsTo Nested known limit hs ws gs es i = limit < known → (k : ℕ) → k < i 
 abbrev pub Memory : Kind → ℕ → List ℕ → List ℕ → List ℕ → List ℕ → Type 0
 Memory kind limit hs ws gs es = RowsFrom kind limit hs ws gs es 0
 
--- The lists and rows before and behind i, and i itself still to be planned.
+-- The entries and rows before and behind i, and i itself still to be planned.
 pub record EntryAsks (kind : Kind) (known limit i row : ℕ) (hs ws gs widths heights ends es : List ℕ) : Type 0 where
   pub asks : PlanAsks kind limit hs ws gs widths heights ends es
   pub within : i < length hs
@@ -99,7 +99,7 @@ pub record EntryDone (kind : Kind) (known limit i : ℕ) (hs ws gs widths height
   pub rows_behind : RowsFrom kind limit hs ws gs es i
   pub rows_before : RowsTo kind known limit hs ws gs es i
 
--- Lists and words hold a plan for `known`, if that is over the limit.
+-- Entries and words hold a plan for `known`, if that is over the limit.
 abbrev pub Known : Kind → ℕ → ℕ → List ℕ → List ℕ → List ℕ → List ℕ → List ℕ → List ℕ → List ℕ → Type 0
 Known kind known limit hs ws gs widths heights ends es =
     limit < known → Planned kind known 0 (components_in hs ws gs) widths heights ends × Memory kind known hs ws gs es

@@ -1,14 +1,15 @@
 // The best layouts of a stack for a height, from its last component to its first.
 #![tactic(auto)]
 
-ghost use Rattle.std.specs.Prelude.{true, ◌≡◌, ◌+◌, ◌*◌, ◌≤◌, ◌<◌, length, get_or, take, drop};
+ghost use Rattle.std.specs.Prelude.{true, ◌≡◌, ◌+◌, ◌*◌, ◌≤◌, ◌<◌, max, length, get_or, drop};
 ghost use Rattle.numbers.specs.Table.{cells};
 ghost use Rattle.terms.specs.Numbers.{most_apart, most_limit};
 ghost use Rattle.terms.specs.declared.Kind.TheVariants.{Apart, Nested};
-ghost use Rattle.terms.specs.Seams.{components_in};
+ghost use Rattle.terms.specs.Pieces.{heights_in, widths_in, seams_in, stack_in, columns, sizes};
 ghost use Rattle.group.specs.Group.{none, unbarred};
 ghost use Rattle.layout.specs.Layout.{better, choice, unmet, layouts, layout_of};
-ghost use Rattle.plan.specs.Asks.{layout_in, GroupAsks, Packed, tried, most_rows, rest_at, FirstAsks, Under, SizesAsk, SizesOf};
+ghost use Rattle.layout.specs.Plan.{lists, outlines};
+ghost use Rattle.plan.specs.Asks.{layout_in, GroupAsks, tried, most_rows, FirstAsks, Under, SizesAsk, SizesOf};
 ghost use Rattle.plan.specs.Asks.{FromAsks, PlanAsks, PlanDone, gap_before, plan_room};
 ghost use Rattle.plan.specs.Memory.{WordAsks, WordDone, RowAsks, RowDone, Forgotten, RowRoom, Readied};
 ghost use Rattle.plan.specs.Memory.{EntryAsks, EntryDone, Known, Memory, most_row};
@@ -16,51 +17,39 @@ ghost use Rattle.plan.specs.Memory.{EntryAsks, EntryDone, Known, Memory, most_ro
 use folding::Outline;
 use group::NONE;
 use group_memory::NOTHING;
-use numbers::{CELLS, barred, gap, larger, lesser, wide};
-use terms::{Kind, MOST_APART, Rows, Slices};
-
-// A layout: its width, its height, and how many components its first group has. A width of NONE means that there is none.
-#[derive(Clone, Copy)]
-struct Best {
-    width: Slices,
-    height: Rows,
-    end: u32,
-}
+use layout::Entry;
+use numbers::{CELLS, barred, gap, height, width};
+use terms::{Kind, MOST_APART, MOST_NESTED, Piece, Rows, Slices};
 
 // The rows of some components without empty rows between them, and the greatest of their widths.
-#[derive(Clone, Copy)]
+#[derive(Clone, Copy, Debug, PartialEq, Eq)]
 pub struct Sizes {
     pub tall: Rows,
     pub widest: Slices,
 }
 
-// The groups of a stack of 64 components: as many as there are pairs of a first and a last one.
-const GROUPS: usize = 2080;
+// What is asked of a first group: the kind, the limit, and the gap before the group.
+#[derive(Clone, Copy, Debug, PartialEq, Eq)]
+struct Asked {
+    kind: Kind,
+    limit: Rows,
+    before: Rows,
+}
+
+// The groups of a stack: as many as there are pairs of a first and a last component.
+const GROUPS: usize = MOST_NESTED * (MOST_NESTED + 1) / 2;
 
 // One more than a stack may have components.
 pub const LISTED: usize = MOST_APART + 1;
 
-fn count(n: usize) -> u32
-    requires { n ≤ most_apart }
-    ensures { result ≡ n }
-{
-    n as u32
-}
-
-fn is_better(a: Best, b: Best) -> bool
+fn is_better(a: Entry, b: Entry) -> bool
     ensures { result ≡ better (layout_in a) (layout_in b) }
 {
-    if b.width.0 < a.width.0 {
-        return false;
-    }
-    if a.width.0 < b.width.0 {
-        return true;
-    }
-    a.height.0 < b.height.0
+    (a.width.0, a.height.0) < (b.width.0, b.height.0)
 }
 
 // The better of two; of equal ones the second, which was found first.
-fn pick(a: Best, b: Best) -> Best
+fn pick(a: Entry, b: Entry) -> Entry
     ensures { layout_in result ≡ choice (layout_in a) (layout_in b) }
 {
     if is_better(a, b) {
@@ -81,36 +70,54 @@ fn most_rows(kind: Kind, limit: Rows) -> Rows
     }
 }
 
+impl Sizes {
+    const EMPTY: Sizes = Sizes {
+        tall: Rows(0),
+        widest: Slices(0),
+    };
+
+    // With the component at i besides.
+    fn plus(self, stack: &[Piece], i: usize) -> Sizes
+        requires { (i < length stack.now) × (self.tall.0 ≤ none) }
+        ensures tall { result.tall.0 ≡ self.tall.0 + get_or (heights_in stack.now) i 0 }
+        ensures widest { result.widest.0 ≡ max self.widest.0 (get_or (widths_in stack.now) i 0) }
+    {
+        Sizes {
+            tall: Rows(self.tall.0 + height(stack, i)),
+            widest: Slices(self.widest.0.max(width(stack, i))),
+        }
+    }
+}
+
+// The rows of the first k components without empty rows, and the greatest of their widths.
+pub fn sizes_of(stack: &[Piece], k: usize) -> Sizes
+    requires { sizes stack.now SizesAsk k }
+    ensures { sizes stack.now SizesOf k result }
+{
+    let mut sizes = Sizes::EMPTY;
+    for i in 0..k {
+        sizes = sizes.plus(stack, i);
+    }
+    sizes
+}
+
 // A group without a fold in front of the rest. Where the rest does not keep the limit its width is NONE, and the two are wider
 // than every layout.
-fn try_flat(
-    limit: Rows,
-    g0: Rows,
-    tall: Rows,
-    widest: Slices,
-    h: &[u16],
-    w: &[u16],
-    g: &[u16],
-    best: Best,
-    rest: Best,
-) -> Best
-    requires group_asks { GroupAsks Apart limit.0 g0.0 widest.0 h.now w.now g.now best rest }
-    requires packed { Packed tall.0 h.now w.now g.now }
-    requires g_value { unbarred (components_in h.now w.now g.now) ≡ true }
-    ensures { layout_in result
-        ≡ tried Apart limit.0 g0.0 (length h.now)
-        h.now w.now g.now best rest }
+fn try_flat(ask: Asked, sizes: Sizes, stack: &[Piece], best: Entry, rest: Entry) -> Entry
+    requires group_asks { columns stack.now (GroupAsks Apart ask.limit.0 ask.before.0 sizes) best rest }
+    requires free { unbarred (stack_in stack.now) ≡ true }
+    ensures { layout_in result ≡ columns stack.now (tried Apart ask.limit.0 ask.before.0) best rest }
 {
-    let k = h.len();
-    let height = tall.0 + g0.0 + gap(g, k - 1);
-    if limit.0 < height {
+    let k = stack.len();
+    let height = sizes.tall.0 + ask.before.0 + gap(stack, k - 1);
+    if ask.limit.0 < height {
         return best;
     }
     pick(
-        Best {
-            width: Slices(widest.0 + rest.width.0),
-            height: Rows(larger(height, rest.height.0)),
-            end: count(k),
+        Entry {
+            width: Slices(sizes.widest.0 + rest.width.0),
+            height: Rows(height.max(rest.height.0)),
+            end: k,
         },
         best,
     )
@@ -118,7 +125,7 @@ fn try_flat(
 
 // From this width on a layout in front of the rest is no better than the best one. As wide as that it can be better only if
 // the rest is lower.
-fn too_wide(best: Best, rest: Best) -> Slices
+fn too_wide(best: Entry, rest: Entry) -> Slices
     requires { best.width.0 ≤ none }
     ensures width_le_result { (best.width.0 ≤ result.0) × (result.0 ≤ best.width.0 → best.height.0 ≤ rest.height.0) }
     ensures result_bound { result.0 ≤ best.width.0 + 1 }
@@ -132,44 +139,45 @@ fn too_wide(best: Best, rest: Best) -> Slices
 // A group with the fold that makes it narrowest in front of the rest. A group that is too wide to improve the best layout
 // need not be searched; in front of a rest of NONE every group is. The group's word stands at `at`.
 fn try_folds(
-    limit: Rows,
-    g0: Rows,
-    tall: Rows,
-    widest: Slices,
-    h: &[u16],
-    w: &[u16],
-    g: &[u16],
-    best: Best,
-    rest: Best,
+    ask: Asked,
+    sizes: Sizes,
+    stack: &[Piece],
+    best: Entry,
+    rest: Entry,
     at: usize,
     work: &mut [u32],
-) -> Best
-    requires group_asks { GroupAsks Nested limit.0 g0.0 widest.0 h.now w.now g.now best rest }
-    requires packed { Packed tall.0 h.now w.now g.now }
-    requires word_asks { WordAsks Nested limit.0 g0.0 h.now w.now g.now work.old at }
-    requires g_value { unbarred (components_in h.now w.now g.now) ≡ true }
-    ensures result_value { layout_in result
-        ≡ tried Nested limit.0 g0.0 (length h.now)
-        h.now w.now g.now best rest }
-    ensures word_done { WordDone Nested limit.0 g0.0 h.now w.now g.now
-        work.old work.new at }
+) -> Entry
+    requires group_asks { columns stack.now (GroupAsks Nested ask.limit.0 ask.before.0 sizes) best rest }
+    requires word_asks { columns stack.now (WordAsks Nested ask.limit.0 ask.before.0) work.old at }
+    requires free { unbarred (stack_in stack.now) ≡ true }
+    ensures result_value { layout_in result ≡ columns stack.now (tried Nested ask.limit.0 ask.before.0) best rest }
+    ensures word_done { columns stack.now (WordDone Nested ask.limit.0 ask.before.0) work.old work.new at }
 {
     let bound = too_wide(best, rest);
-    if bound.0 <= rest.width.0 + widest.0 {
+    if bound.0 <= rest.width.0 + sizes.widest.0 {
         return best;
     }
-    let cap = Slices(lesser(2 * widest.0, bound.0 - 1 - rest.width.0));
-    let k = h.len();
-    let flat = Rows(tall.0 + g0.0 + gap(g, k - 1));
-    let n = group_memory::narrowest(g0, flat, h, w, g, work, at, limit, widest, cap);
+    let cap = Slices((2 * sizes.widest.0).min(bound.0 - 1 - rest.width.0));
+    let k = stack.len();
+    let flat = Rows(sizes.tall.0 + ask.before.0 + gap(stack, k - 1));
+    let n = group_memory::narrowest(
+        ask.before,
+        flat,
+        stack,
+        work,
+        at,
+        ask.limit,
+        sizes.widest,
+        cap,
+    );
     if NONE <= n.width.0 {
         return best;
     }
     pick(
-        Best {
+        Entry {
             width: Slices(n.width.0 + rest.width.0),
-            height: Rows(larger(n.height.0, rest.height.0)),
-            end: count(k),
+            height: Rows(n.height.0.max(rest.height.0)),
+            end: k,
         },
         best,
     )
@@ -177,335 +185,167 @@ fn try_folds(
 
 // No group ends behind a barred component.
 fn try_group(
-    kind: Kind,
-    limit: Rows,
-    g0: Rows,
-    tall: Rows,
-    widest: Slices,
-    h: &[u16],
-    w: &[u16],
-    g: &[u16],
-    best: Best,
-    rest: Best,
+    ask: Asked,
+    sizes: Sizes,
+    stack: &[Piece],
+    best: Entry,
+    rest: Entry,
     at: usize,
     work: &mut [u32],
-) -> Best
-    requires group_asks { GroupAsks kind limit.0 g0.0 widest.0 h.now w.now g.now best rest }
-    requires packed { Packed tall.0 h.now w.now g.now }
-    requires word_asks { WordAsks kind limit.0 g0.0 h.now w.now g.now work.old at }
-    ensures result_value { layout_in result
-        ≡ tried kind limit.0 g0.0 (length h.now)
-        h.now w.now g.now best rest }
-    ensures word_done { WordDone kind limit.0 g0.0 h.now w.now g.now
-        work.old work.new at }
+) -> Entry
+    requires group_asks { columns stack.now (GroupAsks ask.kind ask.limit.0 ask.before.0 sizes) best rest }
+    requires word_asks { columns stack.now (WordAsks ask.kind ask.limit.0 ask.before.0) work.old at }
+    ensures result_value { layout_in result ≡ columns stack.now (tried ask.kind ask.limit.0 ask.before.0) best rest }
+    ensures word_done { columns stack.now (WordDone ask.kind ask.limit.0 ask.before.0) work.old work.new at }
 {
-    let k = h.len();
-    if barred(g, k - 1) {
+    let k = stack.len();
+    if barred(stack, k - 1) {
         return best;
     }
-    match kind {
-        Kind::Apart => try_flat(limit, g0, tall, widest, h, w, g, best, rest),
-        Kind::Nested => try_folds(limit, g0, tall, widest, h, w, g, best, rest, at, work),
+    match ask.kind {
+        Kind::Apart => try_flat(ask, sizes, stack, best, rest),
+        Kind::Nested => try_folds(ask, sizes, stack, best, rest, at, work),
     }
 }
 
-// The first k components as the group.
-fn try_first(
-    kind: Kind,
-    limit: Rows,
-    g0: Rows,
-    tall: Rows,
-    widest: Slices,
-    k: usize,
-    h: &[u16],
-    w: &[u16],
-    g: &[u16],
-    best: Best,
-    rest: Best,
-    at: usize,
-    work: &mut [u32],
-) -> Best
-    requires group_asks { GroupAsks kind limit.0 g0.0 widest.0
-        (take k h.now) (take k w.now) (take k g.now) best rest }
-    requires packed { Packed tall.0 (take k h.now) (take k w.now) (take k g.now) }
-    requires word_asks { WordAsks kind limit.0 g0.0 (take k h.now) (take k w.now) (take k g.now) work.old at }
-    requires k_in_bounds { (k ≤ length h.now) × (k ≤ length w.now) × (k ≤ length g.now) }
-    ensures result_value { layout_in result ≡ tried kind limit.0 g0.0 k
-        (take k h.now) (take k w.now) (take k g.now) best rest }
-    ensures word_done { WordDone kind limit.0 g0.0
-        (take k h.now) (take k w.now) (take k g.now)
-        work.old work.new at }
-{
-    try_group(
-        kind,
-        limit,
-        g0,
-        tall,
-        widest,
-        &h[..k],
-        &w[..k],
-        &g[..k],
-        best,
-        rest,
-        at,
-        work,
-    )
-}
-
-// What the lists hold behind k + 1 components.
-fn rest_at(widths: &[u32], heights: &[u32], k: usize) -> Best
-    requires { (k < length widths.now) × (k < length heights.now) }
-    ensures { result ≡ rest_at widths.now heights.now k }
-{
-    Best {
-        width: Slices(widths[k]),
-        height: Rows(heights[k]),
-        end: 0,
-    }
-}
-
-// The rows of the first k components without empty rows, and the greatest of their widths.
-pub fn sizes_of(h: &[u16], w: &[u16], k: usize) -> Sizes
-    requires { SizesAsk h.now w.now k }
-    ensures { SizesOf h.now w.now k result }
-{
-    let mut tall = 0;
-    let mut widest = 0;
-    let mut i = 0;
-    while i < k {
-        tall += wide(h[i]);
-        widest = larger(widest, wide(w[i]));
-        i += 1;
-    }
-    Sizes {
-        tall: Rows(tall),
-        widest: Slices(widest),
-    }
-}
-
-// A width that the best nested layout stays under: one more than that with k components in the first group, if there is
-// such a layout.
+// A width that the best nested layout stays under: one more than that whose first group ends with the component at `last`, if
+// there is such a layout.
 fn bound_by(
-    limit: Rows,
-    g0: Rows,
-    k: usize,
-    h: &[u16],
-    w: &[u16],
-    g: &[u16],
-    widths: &[u32],
-    heights: &[u32],
+    ask: Asked,
+    last: usize,
+    stack: &[Piece],
+    later: &[Entry],
     row: usize,
     work: &mut [u32],
 ) -> Slices
-    requires first_asks { FirstAsks Nested limit.0 g0.0 h.now w.now g.now widths.now heights.now }
-    requires row_asks { RowAsks Nested limit.0 g0.0 h.now w.now g.now work.old row }
+    requires first_asks { outlines later.now (columns stack.now (FirstAsks Nested ask.limit.0 ask.before.0)) }
+    requires row_asks { columns stack.now (RowAsks Nested ask.limit.0 ask.before.0) work.old row }
     requires row_le_most_row { row ≤ most_row }
-    ensures under { Under Nested limit.0 g0.0
-        (components_in h.now w.now g.now) result.0 }
-    ensures row_done { RowDone Nested limit.0 g0.0 h.now w.now g.now
-        work.old work.new row }
+    ensures under { Under Nested ask.limit.0 ask.before.0 (stack_in stack.now) result.0 }
+    ensures row_done { columns stack.now (RowDone Nested ask.limit.0 ask.before.0) work.old work.new row }
 {
-    if k == 0 {
+    if stack.len() <= last || barred(stack, last) {
         return Slices(NONE);
     }
-    if h.len() < k {
-        return Slices(NONE);
-    }
-    let last = k - 1;
-    if barred(g, last) {
-        return Slices(NONE);
-    }
-    let s = sizes_of(h, w, k);
-    let rest = rest_at(widths, heights, last);
-    let none = Best {
-        width: Slices(NONE),
-        height: Rows(NONE),
-        end: 0,
-    };
+    let k = last + 1;
+    let sizes = sizes_of(stack, k);
+    let rest = later[last];
     let at = row + last;
-    let b = try_folds(
-        limit,
-        g0,
-        s.tall,
-        s.widest,
-        &h[..k],
-        &w[..k],
-        &g[..k],
-        none,
-        rest,
-        at,
-        work,
-    );
-    Slices(lesser(NONE, b.width.0 + 1))
+    let b = try_folds(ask, sizes, &stack[..k], Entry::UNMET, rest, at, work);
+    Slices(NONE.min(b.width.0 + 1))
 }
 
 // Apart no group is searched, so a bound would gain nothing.
 fn likely_bound(
-    kind: Kind,
-    limit: Rows,
-    g0: Rows,
-    k: usize,
-    h: &[u16],
-    w: &[u16],
-    g: &[u16],
-    widths: &[u32],
-    heights: &[u32],
+    ask: Asked,
+    last: usize,
+    stack: &[Piece],
+    later: &[Entry],
     row: usize,
     work: &mut [u32],
 ) -> Slices
-    requires first_asks { FirstAsks kind limit.0 g0.0 h.now w.now g.now widths.now heights.now }
-    requires row_asks { RowAsks kind limit.0 g0.0 h.now w.now g.now work.old row }
+    requires first_asks { outlines later.now (columns stack.now (FirstAsks ask.kind ask.limit.0 ask.before.0)) }
+    requires row_asks { columns stack.now (RowAsks ask.kind ask.limit.0 ask.before.0) work.old row }
     requires row_le_most_row { row ≤ most_row }
-    ensures under { Under kind limit.0 g0.0
-        (components_in h.now w.now g.now) result.0 }
-    ensures row_done { RowDone kind limit.0 g0.0 h.now w.now g.now
-        work.old work.new row }
+    ensures under { Under ask.kind ask.limit.0 ask.before.0 (stack_in stack.now) result.0 }
+    ensures row_done { columns stack.now (RowDone ask.kind ask.limit.0 ask.before.0) work.old work.new row }
 {
-    match kind {
+    match ask.kind {
         Kind::Apart => Slices(NONE),
-        Kind::Nested => bound_by(limit, g0, k, h, w, g, widths, heights, row, work),
+        Kind::Nested => bound_by(ask, last, stack, later, row, work),
     }
 }
 
 // The best layout of what is left of a stack, from the best ones behind 1, 2, 3 and so on of its components. Groups that
 // are too tall end the search, and layouts as wide as a bound that the best one stays under are not searched for.
 fn first_group(
-    kind: Kind,
-    limit: Rows,
-    g0: Rows,
+    ask: Asked,
     bound: Slices,
-    h: &[u16],
-    w: &[u16],
-    g: &[u16],
-    widths: &[u32],
-    heights: &[u32],
+    stack: &[Piece],
+    later: &[Entry],
     row: usize,
     work: &mut [u32],
-) -> Best
-    requires first_asks { FirstAsks kind limit.0 g0.0 h.now w.now g.now widths.now heights.now }
-    requires row_asks { RowAsks kind limit.0 g0.0 h.now w.now g.now work.old row }
-    requires under { Under kind limit.0 g0.0 (components_in h.now w.now g.now) bound.0 }
+) -> Entry
+    requires first_asks { outlines later.now (columns stack.now (FirstAsks ask.kind ask.limit.0 ask.before.0)) }
+    requires row_asks { columns stack.now (RowAsks ask.kind ask.limit.0 ask.before.0) work.old row }
+    requires under { Under ask.kind ask.limit.0 ask.before.0 (stack_in stack.now) bound.0 }
     requires row_le_most_row { row ≤ most_row }
-    ensures result_value { layout_in result
-        ≡ layout_of kind limit.0 g0.0 (components_in h.now w.now g.now) }
-    ensures row_done { RowDone kind limit.0 g0.0 h.now w.now g.now
-        work.old work.new row }
+    ensures result_value { layout_in result ≡ layout_of ask.kind ask.limit.0 ask.before.0 (stack_in stack.now) }
+    ensures row_done { columns stack.now (RowDone ask.kind ask.limit.0 ask.before.0) work.old work.new row }
 {
-    let n = h.len();
-    let most = most_rows(kind, limit);
-    let mut best = Best {
+    let n = stack.len();
+    let most = most_rows(ask.kind, ask.limit);
+    let mut best = Entry {
         width: bound,
-        height: Rows(NONE),
-        end: 0,
+        ..Entry::UNMET
     };
-    let mut tall = 0;
-    let mut widest = 0;
-    let mut k = 0;
-    while k < n {
-        tall += wide(h[k]);
-        if most.0 < tall {
+    let mut sizes = Sizes::EMPTY;
+    for i in 0..n {
+        sizes = sizes.plus(stack, i);
+        if most.0 < sizes.tall.0 {
             return best;
         }
-        widest = larger(widest, wide(w[k]));
-        let rest = rest_at(widths, heights, k);
-        let at = row + k;
-        k += 1;
-        best = try_first(
-            kind,
-            limit,
-            g0,
-            Rows(tall),
-            Slices(widest),
-            k,
-            h,
-            w,
-            g,
-            best,
-            rest,
-            at,
-            work,
-        );
+        let at = row + i;
+        best = try_group(ask, sizes, &stack[..i + 1], best, later[i], at, work);
     }
     best
 }
 
-// The best first group, where one of k components is likely: it is tried first, and what is wider is left out. Most often a
-// first group ends where that of the next component ends.
+// The best first group, where one that ends with the component at `last` is likely: it is tried first, and what is wider is
+// left out. Most often a first group ends where that of the next component ends.
 fn likely_first(
-    kind: Kind,
-    limit: Rows,
-    g0: Rows,
-    k: usize,
-    h: &[u16],
-    w: &[u16],
-    g: &[u16],
-    widths: &[u32],
-    heights: &[u32],
+    ask: Asked,
+    last: usize,
+    stack: &[Piece],
+    later: &[Entry],
     row: usize,
     work: &mut [u32],
-) -> Best
-    requires first_asks { FirstAsks kind limit.0 g0.0 h.now w.now g.now widths.now heights.now }
-    requires row_asks { RowAsks kind limit.0 g0.0 h.now w.now g.now work.old row }
+) -> Entry
+    requires first_asks { outlines later.now (columns stack.now (FirstAsks ask.kind ask.limit.0 ask.before.0)) }
+    requires row_asks { columns stack.now (RowAsks ask.kind ask.limit.0 ask.before.0) work.old row }
     requires row_le_most_row { row ≤ most_row }
-    ensures result_value { layout_in result
-        ≡ layout_of kind limit.0 g0.0 (components_in h.now w.now g.now) }
-    ensures row_done { RowDone kind limit.0 g0.0 h.now w.now g.now
-        work.old work.new row }
+    ensures result_value { layout_in result ≡ layout_of ask.kind ask.limit.0 ask.before.0 (stack_in stack.now) }
+    ensures row_done { columns stack.now (RowDone ask.kind ask.limit.0 ask.before.0) work.old work.new row }
 {
-    let bound = likely_bound(kind, limit, g0, k, h, w, g, widths, heights, row, work);
-    first_group(kind, limit, g0, bound, h, w, g, widths, heights, row, work)
+    let bound = likely_bound(ask, last, stack, later, row, work);
+    first_group(ask, bound, stack, later, row, work)
 }
 
-fn gap_before(g: &[u16], i: usize) -> Rows
-    requires { i ≤ length g.now }
-    ensures { result.0 ≡ gap_before g.now i }
+fn gap_before(stack: &[Piece], i: usize) -> Rows
+    requires { i ≤ length stack.now }
+    ensures { result.0 ≡ gap_before (seams_in stack.now) i }
 {
     if i == 0 {
         return Rows(0);
     }
-    Rows(gap(g, i - 1))
+    Rows(gap(stack, i - 1))
 }
 
-// The best layout of what is left of a stack behind its first i components, where the lists hold the later ones; `next_end` is
-// how many components the first group behind one more of them has.
+// The best layout of what is left of a stack behind its first i components, where the plan holds the later ones. The first
+// group behind one more of them ends where this one likely does.
 fn best_from(
     kind: Kind,
     limit: Rows,
     i: usize,
-    h: &[u16],
-    w: &[u16],
-    g: &[u16],
-    widths: &[u32],
-    heights: &[u32],
-    next_end: u32,
+    stack: &[Piece],
+    plan: &[Entry],
     row: usize,
     work: &mut [u32],
-) -> Best
-    requires from_asks { FromAsks kind limit.0 i h.now w.now g.now widths.now heights.now }
-    requires row_asks { RowAsks kind limit.0 (gap_before g.now i)
-        (drop i h.now) (drop i w.now) (drop i g.now) work.old row }
+) -> Entry
+    requires from_asks { outlines plan.now (columns stack.now (FromAsks kind limit.0 i)) }
+    requires row_asks { columns (drop i stack.now) (RowAsks kind limit.0 (gap_before (seams_in stack.now) i)) work.old row }
     requires row_le_most_row { row ≤ most_row }
-    ensures result_value { layout_in result
-        ≡ get_or (layouts kind limit.0 0 (components_in h.now w.now g.now)) i unmet }
-    ensures row_done { RowDone kind limit.0 (gap_before g.now i)
-        (drop i h.now) (drop i w.now) (drop i g.now)
+    ensures result_value { layout_in result ≡ get_or (layouts kind limit.0 0 (stack_in stack.now)) i unmet }
+    ensures row_done { columns (drop i stack.now) (RowDone kind limit.0 (gap_before (seams_in stack.now) i))
         work.old work.new row }
 {
-    let next = i + 1;
-    let likely = next_end as usize + 1;
-    likely_first(
+    let ask = Asked {
         kind,
         limit,
-        gap_before(g, i),
-        likely,
-        &h[i..],
-        &w[i..],
-        &g[i..],
-        &widths[next..],
-        &heights[next..],
-        row,
-        work,
-    )
+        before: gap_before(stack, i),
+    };
+    let next = i + 1;
+    likely_first(ask, plan[next].end, &stack[i..], &plan[next..], row, work)
 }
 
 // What planning takes of a work buffer.
@@ -520,13 +360,10 @@ pub fn room(kind: Kind) -> usize
 
 // Whether a layout of this height, the best for the limit `known`, is so for the limit: a best layout that keeps a lower
 // limit stays the best.
-fn stays(known: Rows, limit: Rows, height: u32) -> bool
-    ensures { result ≡ true → (limit.0 < known.0) × (height ≤ limit.0) }
+fn stays(known: Rows, limit: Rows, height: Rows) -> bool
+    ensures { result ≡ true → (limit.0 < known.0) × (height.0 ≤ limit.0) }
 {
-    if known.0 <= limit.0 {
-        return false;
-    }
-    height <= limit.0
+    limit.0 < known.0 && height.0 <= limit.0
 }
 
 // The `count` words from `row` on say nothing.
@@ -534,11 +371,7 @@ fn forget(row: usize, count: usize, work: &mut [u32])
     requires { (cells ≤ row) × (row + count ≤ length work.old) }
     ensures { Forgotten work.old work.new row count }
 {
-    let mut k = 0;
-    while k < count {
-        work[row + k] = NOTHING;
-        k += 1;
-    }
+    work[row..row + count].fill(NOTHING);
 }
 
 // What is remembered for a higher limit serves a lower one, and no other.
@@ -546,86 +379,61 @@ fn ready_row(kind: Kind, known: Rows, limit: Rows, row: usize, count: usize, wor
     requires { RowRoom kind row count work.old }
     ensures { Readied kind known.0 limit.0 work.old work.new row count }
 {
-    if limit.0 < known.0 {
-        return;
-    }
-    match kind {
-        Kind::Apart => {}
-        Kind::Nested => forget(row, count, work),
+    if kind == Kind::Nested && known.0 <= limit.0 {
+        forget(row, count, work);
     }
 }
 
-// The best layout of what is left behind i components, in the three lists. The words of its first groups stand in the row.
+// The best layout of what is left behind i components, in the plan. The words of its first groups stand in the row.
 fn plan_at(
     kind: Kind,
     known: Rows,
     limit: Rows,
     i: usize,
     row: usize,
-    h: &[u16],
-    w: &[u16],
-    g: &[u16],
-    widths: &mut [u32],
-    heights: &mut [u32],
-    ends: &mut [u32],
+    stack: &[Piece],
+    plan: &mut [Entry],
     work: &mut [u32],
 )
-    requires { EntryAsks kind known.0 limit.0 i row
-        h.now w.now g.now widths.old heights.old ends.old work.old }
-    ensures { EntryDone kind known.0 limit.0 i h.now w.now g.now
-        widths.new heights.new ends.new work.new }
+    requires { lists plan.old (columns stack.now (EntryAsks kind known.0 limit.0 i row)) work.old }
+    ensures { lists plan.new (columns stack.now (EntryDone kind known.0 limit.0 i)) work.new }
 {
-    ready_row(kind, known, limit, row, h.len() - i, work);
-    if stays(known, limit, heights[i]) {
+    ready_row(kind, known, limit, row, stack.len() - i, work);
+    if stays(known, limit, plan[i].height) {
         return;
     }
-    let next_end = ends[i + 1];
-    let b = best_from(
-        kind, limit, i, h, w, g, widths, heights, next_end, row, work,
-    );
-    widths[i] = b.width.0;
-    heights[i] = b.height.0;
-    ends[i] = b.end;
+    plan[i] = best_from(kind, limit, i, stack, plan, row, work);
 }
 
 // For a height: the best layouts of a stack and of what is left of it behind 1, 2, 3 and so on components, and the outline
-// of the whole. A width of NONE means that there is none. Where the lists hold a plan for the limit `known`, the work buffer
+// of the whole. A width of NONE means that there is none. Where the entries are a plan for the limit `known`, the work buffer
 // holds what is remembered of its groups: if that limit is higher, what of it keeps the limit is not searched again.
 pub fn replan(
     kind: Kind,
     known: Rows,
     limit: Rows,
-    h: &[u16],
-    w: &[u16],
-    g: &[u16],
-    widths: &mut [u32],
-    heights: &mut [u32],
-    ends: &mut [u32],
+    stack: &[Piece],
+    plan: &mut [Entry],
     work: &mut [u32],
 ) -> Outline
-    requires plan_asks { PlanAsks kind limit.0
-        h.now w.now g.now widths.old heights.old ends.old work.old }
-    requires known { Known kind known.0 limit.0 h.now w.now g.now
-        widths.old heights.old ends.old work.old }
-    ensures plan_done { PlanDone kind limit.0 (components_in h.now w.now g.now)
-        widths.new heights.new ends.new result }
-    ensures memory { Memory kind limit.0 h.now w.now g.now work.new }
+    requires plan_asks { lists plan.old (columns stack.now (PlanAsks kind limit.0)) work.old }
+    requires known { lists plan.old (columns stack.now (Known kind known.0 limit.0)) work.old }
+    ensures plan_done { lists plan.new (PlanDone kind limit.0 (stack_in stack.now)) result }
+    ensures memory { columns stack.now (Memory kind limit.0) work.new }
 {
-    let n = h.len();
-    let mut i = n;
+    let n = stack.len();
+    plan[n] = Entry {
+        width: Slices(0),
+        height: Rows(0),
+        end: 0,
+    };
     let mut row = CELLS;
-    widths[i] = 0;
-    heights[i] = 0;
-    ends[i] = 0;
-    while 0 < i {
-        i -= 1;
-        plan_at(
-            kind, known, limit, i, row, h, w, g, widths, heights, ends, work,
-        );
+    for i in (0..n).rev() {
+        plan_at(kind, known, limit, i, row, stack, plan, work);
         row += n - i;
     }
     Outline {
-        width: Slices(widths[0]),
-        height: Rows(heights[0]),
+        width: plan[0].width,
+        height: plan[0].height,
     }
 }

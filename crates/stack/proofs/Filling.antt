@@ -1,44 +1,39 @@
--- How far `fill` has come: the first i components stand in the three lists.
-use Prim.Native.Nat.{ℕ, ◌+◌, ◌≤◌, ◌<◌}
+-- One more component in the four lists.
+use Prim.Native.Nat.{ℕ, ◌+◌, ◌<◌, ◌≤◌}
+use mathlib.Core.Path.{◌≡◌, refl}
+use mathlib.Core.Bool.{Bool, true, false}
+use mir.Val.{bool_byte}
 use mathlib.Core.List.{List}
-use mathlib.Core.Path.{◌≡◌, refl, ◌∙◌}
-use lib.ListN.{length, set, length-set}
-use native.Mathlib.Omega.{arith}
-use Rattle.terms.specs.Component.{tabulate}
-use Rattle.terms.specs.Seams.{seam_of}
+use lib.ListN.{length, set}
+use Rattle.terms.specs.declared.Piece.{Piece}
+use Rattle.terms.specs.Pieces.{mark_of, piece_of}
 use Rattle.stack.specs.File.{component_at}
-use Rattle.stack.specs.Inner.{Fillable, Filled}
-use Rattle.stack.proofs.Columns.{column_step}
+use Rattle.stack.specs.Inner.{Filled}
+use Rattle.terms.proofs.Pieces.{mark_kept}
+use Rattle.stack.proofs.Columns.{column_none, column_step}
 
-pub record Filling (file : List ℕ) (n : ℕ) (heights₀ widths₀ seams₀ heights widths seams : List ℕ) (i : ℕ) : Type 0 where
-  pub within : i ≤ n
-  pub done : Filled file i heights₀ widths₀ seams₀ heights widths seams
-  pub heights_long : length heights ≡ length heights₀
-  pub widths_long : length widths ≡ length widths₀
-  pub seams_long : length seams ≡ length seams₀
+one_if_barred : (b : Bool) → bool_byte b ≡ mark_of b
+one_if_barred true = refl
+one_if_barred false = refl
 
-module _ {file heights₀ widths₀ seams₀ : List ℕ} {n : ℕ} (f : Fillable file n heights₀ widths₀ seams₀) where
-  pub start : Filling file n heights₀ widths₀ seams₀ heights₀ widths₀ seams₀ 0
-  unfolding tabulate
+module _ (file heights₀ widths₀ gaps₀ marks₀ : List ℕ) where
+  pub start : Filled file 0 heights₀ widths₀ gaps₀ marks₀ heights₀ widths₀ gaps₀ marks₀
   start = record {
-    within = omega arith;
-    done = record { heights_hold = refl; widths_hold = refl; seams_hold = refl };
-    heights_long = refl;
-    widths_long = refl;
-    seams_long = refl;
+    heights_hold = column_none (λ c. c.height.0) file heights₀;
+    widths_hold = column_none (λ c. c.width.0) file widths₀;
+    gaps_hold = column_none (λ c. c.gap.0) file gaps₀;
+    marks_hold = column_none (λ c. c.mark) file marks₀;
   }
 
-  pub turn : {heights widths seams : List ℕ} {i h w g : ℕ} → Filling file n heights₀ widths₀ seams₀ heights widths seams i
-      → i < n → h ≡ (component_at file i).height.0 → w ≡ (component_at file i).width.0 → g ≡ seam_of (component_at file i)
-      → Filling file n heights₀ widths₀ seams₀ (set heights i h) (set widths i w) (set seams i g) (i + 1)
-  turn {heights} {widths} {seams} {i} {h} {w} {g} t l a b d = record {
-    within = omega arith;
-    done = record {
-      heights_hold = column_step (λ c. c.height.0) file heights₀ heights i h (omega arith) t.done.heights_hold a;
-      widths_hold = column_step (λ c. c.width.0) file widths₀ widths i w (omega arith) t.done.widths_hold b;
-      seams_hold = column_step seam_of file seams₀ seams i g (omega arith) t.done.seams_hold d;
-    };
-    heights_long = length-set heights i h ∙ t.heights_long;
-    widths_long = length-set widths i w ∙ t.widths_long;
-    seams_long = length-set seams i g ∙ t.seams_long;
+  pub turn : {heights widths gaps marks : List ℕ} {i : ℕ} {p : Piece}
+      → (i < length heights₀) × (i < length widths₀) × (i < length gaps₀) × (i < length marks₀)
+      → (component_at file i).mark ≤ 1
+      → Filled file i heights₀ widths₀ gaps₀ marks₀ heights widths gaps marks
+      → p ≡ piece_of (component_at file i)
+      → Filled file (i + 1) heights₀ widths₀ gaps₀ marks₀ (set heights i p.height) (set widths i p.width) (set gaps i p.gap) (set marks i (bool_byte p.barred))
+  turn {heights} {widths} {gaps} {marks} {i} {p} l m f e = record {
+    heights_hold = column_step (λ c. c.height.0) file heights₀ heights i p.height l.0 f.heights_hold (rw e);
+    widths_hold = column_step (λ c. c.width.0) file widths₀ widths i p.width l.1 f.widths_hold (rw e);
+    gaps_hold = column_step (λ c. c.gap.0) file gaps₀ gaps i p.gap l.2 f.gaps_hold (rw e);
+    marks_hold = column_step (λ c. c.mark) file marks₀ marks i (bool_byte p.barred) l.3 f.marks_hold (rw (one_if_barred, e) (mark_kept (component_at file i).mark m));
   }

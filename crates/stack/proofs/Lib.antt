@@ -3,4 +3,3 @@ pub mod Columns
 pub mod Reading
 pub mod Looking
 pub mod Filling
-pub mod Parting

@@ -12,7 +12,7 @@ abbrev pub read_of : Kind → List ℕ → ℕ → Answer (List Component)
 read_of kind file shortest = and_then (check_of kind file) (λ cs. refuse_if (ltb shortest (length cs)) 8 (result cs))
 
 -- "Only the first n .. list entries .. are written; all beyond stay unchanged"; after a refusal all are.
-abbrev pub read_into : Answer (List Component) → (Component → ℕ) → List ℕ → List ℕ
+abbrev pub read_into : {A : Type 0} → Answer (List Component) → (Component → A) → List A → List A
 read_into (refusal k) part old = old
 read_into (result cs) part old = map part cs ++ drop (length cs) old
 

@@ -1,6 +1,6 @@
 -- Answers in numbers, as C and Rust receive them. A refusal is its number, 1 to 11; a result has the refusal 0. So the two
 -- cannot be confused.
-use Rattle.std.specs.Prelude.{ℕ, ◌+◌, ◌-◌, ◌*◌, ◌≡◌, List, [], Bool, true, false, cond, ◌&&◌, length, take, leb, eqb}
+use Rattle.std.specs.Prelude.{ℕ, ◌+◌, ◌-◌, ◌*◌, ◌≡◌, List, [], Bool, true, false, Option, Some, None, cond, ◌&&◌, length, take, leb, eqb}
 use Rattle.terms.specs.declared.Component.{Component}
 use Rattle.terms.specs.declared.Kind.{Kind}
 use Rattle.terms.specs.declared.Kind.TheVariants.{Apart, Nested}
@@ -8,7 +8,7 @@ use Rattle.terms.specs.Answer.{Answer, refusal, result}
 use Rattle.stack.specs.File.{version_of, bytes_each}
 use Rattle.folding.specs.declared.Outline.{Outline}
 use Rattle.folding.specs.declared.Winner.{Winner}
-use Rattle.folding.specs.declared.Winner.TheVariants.{First, Second, Neither}
+use Rattle.folding.specs.declared.Winner.TheVariants.{First, Second}
 use Rattle.stack_folds.specs.declared.Count.{Count}
 use Rattle.stack_folds.specs.declared.Extent.{Extent}
 use Rattle.stack_folds.specs.declared.Part.{Part}
@@ -51,10 +51,10 @@ part_code (result cs) file number =
     (record { start = 0; length = 0 })
 
 -- Choose: 1 for the first, 2 for the second, 0 where measuring would refuse either.
-abbrev pub choice_code : Winner → ℕ
-choice_code First = 1
-choice_code Second = 2
-choice_code Neither = 0
+abbrev pub choice_code : Option Winner → ℕ
+choice_code (Some First) = 1
+choice_code (Some Second) = 2
+choice_code None = 0
 
 -- The placements that the number stands for: "The winner's placements are the first 3n numbers of its buffer."
 abbrev pub chosen_part : Answer (List Component) → ℕ → List ℕ → List ℕ → List ℕ

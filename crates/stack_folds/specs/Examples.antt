@@ -1,11 +1,11 @@
 -- The numbers that the header gives, by computation.
-use Rattle.std.specs.Prelude.{ℕ, ◌≡◌, refl, List, [], ◌∷◌, true, false}
+use Rattle.std.specs.Prelude.{ℕ, ◌≡◌, refl, List, [], ◌∷◌, true, false, Some, None}
 use Rattle.terms.specs.declared.Component.{Component}
 use Rattle.terms.specs.declared.Kind.TheVariants.{Apart, Nested}
 use Rattle.terms.specs.Answer.{refusal, result}
 use Rattle.terms.specs.Component.{every, stack_of, tabulate, count_of}
 use Rattle.stack.specs.File.{header_of, check_of}
-use Rattle.folding.specs.declared.Winner.TheVariants.{First, Second, Neither}
+use Rattle.folding.specs.declared.Winner.TheVariants.{First, Second}
 use Rattle.stack_folds.specs.Codes.{kind_of, count_code, outline_code, part_code, choice_code, chosen_part}
 
 -- false is apart, true is nested
@@ -26,7 +26,7 @@ not_outlined : outline_code (refusal 9) ≡ record { refusal = 9; width = 0; hei
 not_outlined = refl
 
 -- 1 the first, 2 the second, 0 neither
-choices : (choice_code First ≡ 1) × (choice_code Second ≡ 2) × (choice_code Neither ≡ 0)
+choices : (choice_code (Some First) ≡ 1) × (choice_code (Some Second) ≡ 2) × (choice_code None ≡ 0)
 choices = (refl, refl, refl)
 
 unit : Component

@@ -2,25 +2,25 @@
 #![tactic(auto)]
 
 ghost use Rattle.std.specs.Prelude.{◌≡◌, take, drop};
-ghost use Rattle.terms.specs.Answer.{count_answer};
+ghost use Rattle.terms.specs.Answer.{answer_of};
 ghost use Rattle.terms.specs.Component.{count_of};
 ghost use Rattle.terms.specs.declared.Kind.TheVariants.{Apart};
 ghost use Rattle.stack.specs.File.{check_of};
 ghost use Rattle.stack.specs.Calls.{Read, lookup_of};
 ghost use Rattle.stack_write.specs.Call.{Wrote};
-ghost use Rattle.folding.specs.Calls.{measured_answer, measure_of, winner_is, choose_of};
+ghost use Rattle.folding.specs.Calls.{measure_of, winner_is, choose_of};
 ghost use Rattle.fold.specs.Calls.{ToHeight, ToWidth};
 ghost use Rattle.fold_area.specs.Calls.{SmallestOf};
 ghost use Rattle.fold_table.specs.Calls.{TableOf};
 ghost use Rattle.stack_folds.specs.Codes.{kind_of, count_code, outline_code, part_code, choice_code, chosen_part};
 ghost use Rattle.stack_folds.specs.Codes.{count_of_code, outline_of_code, PlainCount, PlainOutline};
 
-use folding::{Measured, Winner};
-use terms::{Counted, Kind, Rows, Slices};
+use folding::{Outline, Winner};
+use terms::{Kind, Refusal, Rows, Slices};
 
 // A refusal and 0, or 0 and a number of components, bytes or pairs.
 #[repr(C)]
-#[derive(Clone, Copy)]
+#[derive(Clone, Copy, Debug, PartialEq, Eq)]
 pub struct Count {
     pub refusal: u32,
     pub count: usize,
@@ -28,7 +28,7 @@ pub struct Count {
 
 // A refusal with width and height 0, or 0 and an outline.
 #[repr(C)]
-#[derive(Clone, Copy)]
+#[derive(Clone, Copy, Debug, PartialEq, Eq)]
 pub struct Extent {
     pub refusal: u32,
     pub width: u32,
@@ -37,7 +37,7 @@ pub struct Extent {
 
 // A part of a lent buffer; the empty part starts at 0.
 #[repr(C)]
-#[derive(Clone, Copy)]
+#[derive(Clone, Copy, Debug, PartialEq, Eq)]
 pub struct Part {
     pub start: usize,
     pub length: usize,
@@ -46,48 +46,49 @@ pub struct Part {
 fn kind_of(nested: bool) -> Kind
     ensures { result ≡ kind_of nested }
 {
-    if nested {
-        return Kind::Nested;
-    }
-    Kind::Apart
+    if nested { Kind::Nested } else { Kind::Apart }
 }
 
-fn counted(a: Counted) -> Count
-    ensures { result ≡ count_code (count_answer a) }
-{
-    match a {
-        Counted::Count(n) => Count {
-            refusal: 0,
-            count: n,
-        },
-        Counted::Refused(k) => Count {
-            refusal: k.number(),
-            count: 0,
-        },
+impl From<Result<usize, Refusal>> for Count {
+    ghost from_gives = { λ r c. c ≡ count_code (answer_of r) };
+
+    fn from(answer: Result<usize, Refusal>) -> Count {
+        match answer {
+            Ok(n) => Count {
+                refusal: 0,
+                count: n,
+            },
+            Err(k) => Count {
+                refusal: k.number(),
+                count: 0,
+            },
+        }
     }
 }
 
-fn measured(a: Measured) -> Extent
-    ensures { result ≡ outline_code (measured_answer a) }
-{
-    match a {
-        Measured::Outlined(o) => Extent {
-            refusal: 0,
-            width: o.width.0,
-            height: o.height.0,
-        },
-        Measured::Refused(k) => Extent {
-            refusal: k.number(),
-            width: 0,
-            height: 0,
-        },
+impl From<Result<Outline, Refusal>> for Extent {
+    ghost from_gives = { λ r e. e ≡ outline_code (answer_of r) };
+
+    fn from(answer: Result<Outline, Refusal>) -> Extent {
+        match answer {
+            Ok(o) => Extent {
+                refusal: 0,
+                width: o.width.0,
+                height: o.height.0,
+            },
+            Err(k) => Extent {
+                refusal: k.number(),
+                width: 0,
+                height: 0,
+            },
+        }
     }
 }
 
 pub fn folds_check(file: &[u8], nested: bool) -> Count
     ensures { result ≡ count_code (count_of (check_of (kind_of nested) file.now)) }
 {
-    counted(stack::check(file, kind_of(nested)))
+    stack::check(file, kind_of(nested)).into()
 }
 
 pub fn folds_read(
@@ -102,7 +103,7 @@ pub fn folds_read(
         heights.new widths.new gaps.new marks.new }
     ensures plain_count { PlainCount result }
 {
-    counted(stack::read(file, heights, widths, gaps, marks))
+    stack::read(file, heights, widths, gaps, marks).into()
 }
 
 // What `stack::lookup` shows is as long as a component, or empty.
@@ -134,22 +135,22 @@ pub fn folds_write(
         file.old (count_of_code result) file.new }
     ensures plain_count { PlainCount result }
 {
-    counted(stack_write::write(heights, widths, gaps, marks, file))
+    stack_write::write(heights, widths, gaps, marks, file).into()
 }
 
 pub fn folds_measure(file: &[u8], nested: bool, placements: &[u32]) -> Extent
     ensures { result ≡ outline_code (measure_of (kind_of nested) file.now placements.now) }
 {
-    measured(measure::measure(file, kind_of(nested), placements))
+    measure::measure(file, kind_of(nested), placements).into()
 }
 
-fn choice(w: Winner) -> u32
-    ensures { result ≡ choice_code w }
+fn choice(winner: Option<Winner>) -> u32
+    ensures { result ≡ choice_code winner }
 {
-    match w {
-        Winner::First => 1,
-        Winner::Second => 2,
-        Winner::Neither => 0,
+    match winner {
+        Some(Winner::First) => 1,
+        Some(Winner::Second) => 2,
+        None => 0,
     }
 }
 
@@ -178,7 +179,7 @@ pub fn folds_to_height(
     ensures plain_outline { PlainOutline result }
 {
     let kind = kind_of(nested);
-    measured(fold::to_height(file, kind, Rows(limit), placements, work))
+    fold::to_height(file, kind, Rows(limit), placements, work).into()
 }
 
 pub fn folds_to_width(
@@ -193,7 +194,7 @@ pub fn folds_to_width(
     ensures plain_outline { PlainOutline result }
 {
     let kind = kind_of(nested);
-    measured(fold::to_width(file, kind, Slices(limit), placements, work))
+    fold::to_width(file, kind, Slices(limit), placements, work).into()
 }
 
 pub fn folds_smallest_area(
@@ -207,7 +208,7 @@ pub fn folds_smallest_area(
     ensures plain_outline { PlainOutline result }
 {
     let kind = kind_of(nested);
-    measured(fold_area::smallest_area(file, kind, placements, work))
+    fold_area::smallest_area(file, kind, placements, work).into()
 }
 
 pub fn folds_table(file: &[u8], nested: bool, pairs: &mut [u32], work: &mut [u32]) -> Count
@@ -216,5 +217,5 @@ pub fn folds_table(file: &[u8], nested: bool, pairs: &mut [u32], work: &mut [u32
     ensures plain_count { PlainCount result }
 {
     let kind = kind_of(nested);
-    counted(fold_table::table(file, kind, pairs, work))
+    fold_table::table(file, kind, pairs, work).into()
 }

@@ -1,7 +1,11 @@
 // Runs the ten calls on stack E, on E with a fold barred and on refused files, and writes their numbers, a line a case.
 #![tactic(auto)]
 
-use stack_folds::{Count, Extent, Part};
+use stack_folds::{
+    Count, Extent, Part, folds_check, folds_choose, folds_lookup, folds_measure, folds_read,
+    folds_smallest_area, folds_table, folds_to_height, folds_to_width, folds_write,
+};
+use std::fmt::Display;
 use std::io::{self, BufWriter, Write};
 use terms::LEAST_WORK;
 
@@ -19,88 +23,38 @@ const OTHER: [u8; 7] = *b"STK\x03\x00\x00\x00";
 // One component, whose mark is 1.
 const LAST: [u8; 15] = *b"STK\x02\x00\x01\x00\x01\x00\x01\x00\x00\x00\x01\x00";
 
-fn say(out: &mut impl Write, text: &[u8]) -> io::Result<()> {
-    out.write_all(text)
+fn say_count(out: &mut impl Write, label: &str, c: Count) -> io::Result<()> {
+    writeln!(out, "{label} {} {}", c.refusal, c.count)
 }
 
-fn say_number(out: &mut impl Write, n: u64) -> io::Result<()> {
-    write!(out, " {n}")
+fn say_extent(out: &mut impl Write, label: &str, e: Extent) -> io::Result<()> {
+    writeln!(out, "{label} {} {} {}", e.refusal, e.width, e.height)
 }
 
-fn say_count(out: &mut impl Write, label: &[u8], c: Count) -> io::Result<()> {
-    say(out, label)?;
-    say_number(out, c.refusal as u64)?;
-    say_number(out, c.count as u64)?;
-    say(out, b"\n")
+fn say_part(out: &mut impl Write, label: &str, p: Part) -> io::Result<()> {
+    writeln!(out, "{label} {} {}", p.start, p.length)
 }
 
-fn say_extent(out: &mut impl Write, label: &[u8], e: Extent) -> io::Result<()> {
-    say(out, label)?;
-    say_number(out, e.refusal as u64)?;
-    say_number(out, e.width as u64)?;
-    say_number(out, e.height as u64)?;
-    say(out, b"\n")
-}
-
-fn say_part(out: &mut impl Write, label: &[u8], p: Part) -> io::Result<()> {
-    say(out, label)?;
-    say_number(out, p.start as u64)?;
-    say_number(out, p.length as u64)?;
-    say(out, b"\n")
-}
-
-fn say_choice(out: &mut impl Write, label: &[u8], n: u32) -> io::Result<()> {
-    say(out, label)?;
-    say_number(out, n as u64)?;
-    say(out, b"\n")
-}
-
-fn say_pair(out: &mut impl Write, width: u32, height: u32) -> io::Result<()> {
-    say_number(out, width as u64)?;
-    say_number(out, height as u64)
-}
-
-fn wide(x: u16) -> u64 {
-    x as u64
-}
-
-fn say_list(out: &mut impl Write, label: &[u8], list: &[u16; 4]) -> io::Result<()> {
-    say(out, label)?;
-    say_number(out, wide(list[0]))?;
-    say_number(out, wide(list[1]))?;
-    say_number(out, wide(list[2]))?;
-    say_number(out, wide(list[3]))?;
-    say(out, b"\n")
+fn say_list(out: &mut impl Write, label: &str, list: &[impl Display]) -> io::Result<()> {
+    write!(out, "{label}")?;
+    for x in list {
+        write!(out, " {x}")?;
+    }
+    writeln!(out)
 }
 
 fn file_cases(out: &mut impl Write) -> io::Result<()> {
-    say_count(out, b"check", stack_folds::folds_check(&E, true))?;
-    say_count(
-        out,
-        b"check barred",
-        stack_folds::folds_check(&BARRED, true),
-    )?;
-    say_count(out, b"check other", stack_folds::folds_check(&OTHER, true))?;
-    say_count(out, b"check last", stack_folds::folds_check(&LAST, false))?;
-    say_part(out, b"lookup 1", stack_folds::folds_lookup(&E, 1))?;
-    say_part(out, b"lookup 4", stack_folds::folds_lookup(&E, 4))?;
-    say_part(out, b"lookup 5", stack_folds::folds_lookup(&E, 5))?;
-    say_part(
-        out,
-        b"barred lookup 1",
-        stack_folds::folds_lookup(&BARRED, 1),
-    )?;
-    say_part(
-        out,
-        b"barred lookup 4",
-        stack_folds::folds_lookup(&BARRED, 4),
-    )?;
-    say_part(
-        out,
-        b"barred lookup 5",
-        stack_folds::folds_lookup(&BARRED, 5),
-    )?;
-    say_part(out, b"last lookup 1", stack_folds::folds_lookup(&LAST, 1))
+    say_count(out, "check", folds_check(&E, true))?;
+    say_count(out, "check barred", folds_check(&BARRED, true))?;
+    say_count(out, "check other", folds_check(&OTHER, true))?;
+    say_count(out, "check last", folds_check(&LAST, false))?;
+    say_part(out, "lookup 1", folds_lookup(&E, 1))?;
+    say_part(out, "lookup 4", folds_lookup(&E, 4))?;
+    say_part(out, "lookup 5", folds_lookup(&E, 5))?;
+    say_part(out, "barred lookup 1", folds_lookup(&BARRED, 1))?;
+    say_part(out, "barred lookup 4", folds_lookup(&BARRED, 4))?;
+    say_part(out, "barred lookup 5", folds_lookup(&BARRED, 5))?;
+    say_part(out, "last lookup 1", folds_lookup(&LAST, 1))
 }
 
 // What reading gives, and the file that the writer makes of it.
@@ -111,18 +65,14 @@ fn list_cases(out: &mut impl Write, file: &[u8], written: &mut [u8]) -> io::Resu
     let mut m = [9u16; 4];
     say_count(
         out,
-        b"read",
-        stack_folds::folds_read(file, &mut h, &mut w, &mut g, &mut m),
+        "read",
+        folds_read(file, &mut h, &mut w, &mut g, &mut m),
     )?;
-    say_list(out, b"heights", &h)?;
-    say_list(out, b"widths", &w)?;
-    say_list(out, b"gaps", &g)?;
-    say_list(out, b"marks", &m)?;
-    say_count(
-        out,
-        b"write",
-        stack_folds::folds_write(&h, &w, &g, &m, written),
-    )
+    say_list(out, "heights", &h)?;
+    say_list(out, "widths", &w)?;
+    say_list(out, "gaps", &g)?;
+    say_list(out, "marks", &m)?;
+    say_count(out, "write", folds_write(&h, &w, &g, &m, written))
 }
 
 // Read, written, and read again.
@@ -137,36 +87,19 @@ fn file_twice(out: &mut impl Write, file: &[u8]) -> io::Result<()> {
 fn placement_cases(out: &mut impl Write) -> io::Result<()> {
     let flat = [0, 0, 3, 0, 0, 2, 0, 0, 1, 0, 0, 0];
     let folded = [0, 0, 1, 0, 0, 0, 0, 1, 0, 0, 1, 2];
+    say_extent(out, "measure apart", folds_measure(&E, false, &flat))?;
+    say_extent(out, "measure nested", folds_measure(&E, true, &folded))?;
     say_extent(
         out,
-        b"measure apart",
-        stack_folds::folds_measure(&E, false, &flat),
+        "measure folded apart",
+        folds_measure(&E, false, &folded),
     )?;
-    say_extent(
-        out,
-        b"measure nested",
-        stack_folds::folds_measure(&E, true, &folded),
-    )?;
-    say_extent(
-        out,
-        b"measure folded apart",
-        stack_folds::folds_measure(&E, false, &folded),
-    )?;
-    say_choice(
-        out,
-        b"choose second",
-        stack_folds::folds_choose(&E, true, &flat, &folded),
-    )?;
-    say_choice(
-        out,
-        b"choose first",
-        stack_folds::folds_choose(&E, true, &folded, &flat),
-    )?;
-    say_choice(
-        out,
-        b"choose neither",
-        stack_folds::folds_choose(&E, false, &flat, &folded),
-    )
+    let second = folds_choose(&E, true, &flat, &folded);
+    let first = folds_choose(&E, true, &folded, &flat);
+    let neither = folds_choose(&E, false, &flat, &folded);
+    writeln!(out, "choose second {second}")?;
+    writeln!(out, "choose first {first}")?;
+    writeln!(out, "choose neither {neither}")
 }
 
 // A fold, or a next group, behind the second component is barred; one behind the third is not.
@@ -177,74 +110,51 @@ fn barred_cases(out: &mut impl Write) -> io::Result<()> {
     let later = [0, 0, 2, 0, 0, 1, 0, 0, 0, 0, 1, 0];
     say_extent(
         out,
-        b"barred measure flat",
-        stack_folds::folds_measure(&BARRED, false, &flat),
+        "barred measure flat",
+        folds_measure(&BARRED, false, &flat),
     )?;
     say_extent(
         out,
-        b"barred measure folded",
-        stack_folds::folds_measure(&BARRED, true, &folded),
+        "barred measure folded",
+        folds_measure(&BARRED, true, &folded),
     )?;
     say_extent(
         out,
-        b"barred measure parted",
-        stack_folds::folds_measure(&BARRED, false, &parted),
+        "barred measure parted",
+        folds_measure(&BARRED, false, &parted),
     )?;
     say_extent(
         out,
-        b"barred measure later",
-        stack_folds::folds_measure(&BARRED, true, &later),
+        "barred measure later",
+        folds_measure(&BARRED, true, &later),
     )?;
-    say_choice(
-        out,
-        b"barred choose neither",
-        stack_folds::folds_choose(&BARRED, true, &later, &folded),
-    )
+    let neither = folds_choose(&BARRED, true, &later, &folded);
+    writeln!(out, "barred choose neither {neither}")
 }
 
-fn fold_cases(out: &mut impl Write, label: &[u8], file: &[u8], nested: bool) -> io::Result<()> {
+fn fold_cases(out: &mut impl Write, label: &str, file: &[u8], nested: bool) -> io::Result<()> {
     let mut placements = [0u32; 12];
     let mut work = [0u32; LEAST_WORK];
-    say(out, label)?;
-    say_extent(
-        out,
-        b" to height 2",
-        stack_folds::folds_to_height(file, nested, 2, &mut placements, &mut work),
-    )?;
-    say(out, label)?;
-    say_extent(
-        out,
-        b" to width 3",
-        stack_folds::folds_to_width(file, nested, 3, &mut placements, &mut work),
-    )?;
-    say(out, label)?;
-    say_extent(
-        out,
-        b" to width 2",
-        stack_folds::folds_to_width(file, nested, 2, &mut placements, &mut work),
-    )?;
-    say(out, label)?;
-    say_extent(
-        out,
-        b" smallest area",
-        stack_folds::folds_smallest_area(file, nested, &mut placements, &mut work),
-    )
+    let low = folds_to_height(file, nested, 2, &mut placements, &mut work);
+    write!(out, "{label}")?;
+    say_extent(out, " to height 2", low)?;
+    let three = folds_to_width(file, nested, 3, &mut placements, &mut work);
+    write!(out, "{label}")?;
+    say_extent(out, " to width 3", three)?;
+    let two = folds_to_width(file, nested, 2, &mut placements, &mut work);
+    write!(out, "{label}")?;
+    say_extent(out, " to width 2", two)?;
+    let smallest = folds_smallest_area(file, nested, &mut placements, &mut work);
+    write!(out, "{label}")?;
+    say_extent(out, " smallest area", smallest)
 }
 
 // Three pairs, and what the fourth place held before.
-fn table_case(out: &mut impl Write, label: &[u8], file: &[u8], nested: bool) -> io::Result<()> {
+fn table_case(out: &mut impl Write, label: &str, file: &[u8], nested: bool) -> io::Result<()> {
     let mut pairs = [9u32; 8];
     let mut work = [0u32; LEAST_WORK];
-    say_count(
-        out,
-        label,
-        stack_folds::folds_table(file, nested, &mut pairs, &mut work),
-    )?;
-    say_pair(out, pairs[0], pairs[1])?;
-    say_pair(out, pairs[2], pairs[3])?;
-    say_pair(out, pairs[4], pairs[5])?;
-    say_pair(out, pairs[6], pairs[7])?;
-    say(out, b"\n")
+    say_count(out, label, folds_table(file, nested, &mut pairs, &mut work))?;
+    say_list(out, "", &pairs)
 }
 
 fn main(rt: HostRuntime) -> io::Result<()> {
@@ -254,13 +164,13 @@ fn main(rt: HostRuntime) -> io::Result<()> {
     file_twice(&mut out, &BARRED)?;
     placement_cases(&mut out)?;
     barred_cases(&mut out)?;
-    fold_cases(&mut out, b"apart", &E, false)?;
-    fold_cases(&mut out, b"nested", &E, true)?;
-    fold_cases(&mut out, b"barred apart", &BARRED, false)?;
-    fold_cases(&mut out, b"barred nested", &BARRED, true)?;
-    table_case(&mut out, b"apart table", &E, false)?;
-    table_case(&mut out, b"nested table", &E, true)?;
-    table_case(&mut out, b"barred apart table", &BARRED, false)?;
-    table_case(&mut out, b"barred nested table", &BARRED, true)?;
+    fold_cases(&mut out, "apart", &E, false)?;
+    fold_cases(&mut out, "nested", &E, true)?;
+    fold_cases(&mut out, "barred apart", &BARRED, false)?;
+    fold_cases(&mut out, "barred nested", &BARRED, true)?;
+    table_case(&mut out, "apart table", &E, false)?;
+    table_case(&mut out, "nested table", &E, true)?;
+    table_case(&mut out, "barred apart table", &BARRED, false)?;
+    table_case(&mut out, "barred nested table", &BARRED, true)?;
     out.flush()
 }

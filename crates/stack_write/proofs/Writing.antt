@@ -1,12 +1,12 @@
 -- The bytes of components, written one component after another behind the header; and the ways in which the writer ends.
-use Prim.Native.Nat.{ℕ, suc, ◌+◌, ◌-◌, ◌*◌, ◌≤◌, ◌<◌}
+use Prim.Native.Nat.{ℕ, suc, ◌+◌, ◌-◌, ◌*◌, ◌≤◌}
 use mathlib.Core.Path.{◌≡◌, refl, sym, ap, ◌∙◌}
 use mathlib.Core.List.{List, [], ◌∷◌, ◌++◌, append_assoc}
 use native.Mathlib.Omega.{arith}
 use native.Mathlib.Numerals.{add-one}
 use lib.ListN.{length, take, drop}
 use lib.Seq.{take_at, drop_at, drop-drop}
-use borrow.Author.Tests.{lt-ltb, le-ltb, eq-eqb, ne_eqb}
+use borrow.Author.Tests.{le-ltb, eq-eqb}
 use borrow.Rule.Slice.PartMut.{put_mid}
 use Rattle.terms.specs.declared.Component.{Component}
 use Rattle.terms.specs.declared.Kind.TheVariants.{Apart}
@@ -56,6 +56,9 @@ whole : (cs : List Component) (old p last : List ℕ) (n : ℕ) → length cs �
 whole cs old p last n m d e l =
     back 7 p last d ∙ ap (λ (z : List ℕ). take 7 p ++ z) (rw (from 7 p) at l) ∙ rw (e, drop-drop (8 * n) 7 old, m)
 
+pub counts : (heights widths gaps marks : List ℕ) → length (entries_of heights widths gaps marks) ≡ length heights
+counts heights widths gaps marks = tabulate-length (entry_at heights widths gaps marks) (length heights)
+
 -- Lists whose components are a stack.
 module _ (heights widths gaps marks : List ℕ) {n : ℕ} (e : count_of (stack_of (most_of Apart) (entries_of heights widths gaps marks)) ≡ result n) where
   is : stack_of (most_of Apart) (entries_of heights widths gaps marks) ≡ result (entries_of heights widths gaps marks)
@@ -68,43 +71,31 @@ module _ (heights widths gaps marks : List ℕ) {n : ℕ} (e : count_of (stack_o
       let c = counted _ n e in
       sym (tabulate-length (entry_at heights widths gaps marks) (length heights)) ∙ ap length (stack_is _ _ _ c.1).0 ∙ c.2
 
-  pub few : n ≤ 256
-  few = let c = counted (stack_of (most_of Apart) (entries_of heights widths gaps marks)) n e in omega (arith, (stack_is _ _ _ c.1).1.few, c.2)
+  counted_as : length (entries_of heights widths gaps marks) ≡ n
+  counted_as = counts heights widths gaps marks ∙ long
 
-  counts : length (entries_of heights widths gaps marks) ≡ n
-  counts = tabulate-length (entry_at heights widths gaps marks) (length heights) ∙ long
+pub equal : {heights widths gaps marks : List ℕ} → length widths ≡ length heights → length gaps ≡ length heights → length marks ≡ length heights → Lists heights widths gaps marks
+equal w g m = record { widths_long = w; gaps_long = g; marks_long = m }
 
 module _ (heights widths gaps marks out : List ℕ) where
   refused : (k : ℕ) → write_of heights widths gaps marks (length out) ≡ refusal k → Wrote heights widths gaps marks out (refusal k) out
   refused k e = record { answers = rw e; holds = rw e; reads_back = rw e tt }
-
-  pub other_widths : (length widths ≡ length heights → ⊥) → Wrote heights widths gaps marks out (refusal 3) out
-  other_widths h = refused 3 (rw (ne_eqb _ _ h))
-
-  pub other_gaps : length widths ≡ length heights → (length gaps ≡ length heights → ⊥) → Wrote heights widths gaps marks out (refusal 3) out
-  other_gaps h g = refused 3 (rw (eq-eqb (length widths) (length heights) h, ne_eqb (length gaps) (length heights) g))
-
-  pub other_marks : length widths ≡ length heights → length gaps ≡ length heights → (length marks ≡ length heights → ⊥) → Wrote heights widths gaps marks out (refusal 3) out
-  other_marks h g m = refused 3 (rw (eq-eqb (length widths) (length heights) h, eq-eqb (length gaps) (length heights) g, ne_eqb (length marks) (length heights) m))
 
   module _ (s : Lists heights widths gaps marks) where
     pub by_check : (k : ℕ) → count_of (stack_of (most_of Apart) (entries_of heights widths gaps marks)) ≡ refusal k → Wrote heights widths gaps marks out (refusal k) out
     by_check k e = refused k (rw (eq-eqb _ _ s.widths_long, eq-eqb _ _ s.gaps_long, eq-eqb _ _ s.marks_long, uncounted (stack_of (most_of Apart) (entries_of heights widths gaps marks)) k e))
 
     module _ {n : ℕ} (e : count_of (stack_of (most_of Apart) (entries_of heights widths gaps marks)) ≡ result n) where
-      pub short : length out < 7 + 8 * n → Wrote heights widths gaps marks out (refusal 8) out
-      short h = refused 8 (rw (eq-eqb _ _ s.widths_long, eq-eqb _ _ s.gaps_long, eq-eqb _ _ s.marks_long, is heights widths gaps marks e, counts heights widths gaps marks e, lt-ltb _ _ h))
-
       pub wrote : (p last : List ℕ) → 7 + 8 * n ≤ length out → length p ≡ length out
           → p ≡ headed n (drop 7 out)
           → last ≡ bytes_of (entries_of heights widths gaps marks) ++ drop (8 * length heights) (take (length p - 7) (drop 7 p))
           → Wrote heights widths gaps marks out (result (7 + 8 * n)) (put_mid 7 (length p - 7) p last)
       wrote p last h m k l =
-          let a : write_of heights widths gaps marks (length out) ≡ result (entries_of heights widths gaps marks) = rw (eq-eqb _ _ s.widths_long, eq-eqb _ _ s.gaps_long, eq-eqb _ _ s.marks_long, is heights widths gaps marks e, counts heights widths gaps marks e, le-ltb _ _ h) in
-          let f : put_mid 7 (length p - 7) p last ≡ file_of (entries_of heights widths gaps marks) ++ drop (7 + 8 * n) out = whole (entries_of heights widths gaps marks) out p last n (counts heights widths gaps marks e) (omega arith) k (rw (← long heights widths gaps marks e) l) in
-          let g : put_mid 7 (length p - 7) p last ≡ file_of (entries_of heights widths gaps marks) ++ drop (7 + 8 * length (entries_of heights widths gaps marks)) out = f ∙ rw (counts heights widths gaps marks e) in
+          let a : write_of heights widths gaps marks (length out) ≡ result (entries_of heights widths gaps marks) = rw (eq-eqb _ _ s.widths_long, eq-eqb _ _ s.gaps_long, eq-eqb _ _ s.marks_long, is heights widths gaps marks e, counted_as heights widths gaps marks e, le-ltb _ _ h) in
+          let f : put_mid 7 (length p - 7) p last ≡ file_of (entries_of heights widths gaps marks) ++ drop (7 + 8 * n) out = whole (entries_of heights widths gaps marks) out p last n (counted_as heights widths gaps marks e) (omega arith) k (rw (← long heights widths gaps marks e) l) in
+          let g : put_mid 7 (length p - 7) p last ≡ file_of (entries_of heights widths gaps marks) ++ drop (7 + 8 * length (entries_of heights widths gaps marks)) out = f ∙ rw (counted_as heights widths gaps marks e) in
           record {
-            answers = rw (a, counts heights widths gaps marks e);
+            answers = rw (a, counted_as heights widths gaps marks e);
             holds = rw a g;
             reads_back =
                 rw (a, g, take_at (file_of (entries_of heights widths gaps marks)) (drop (7 + 8 * length (entries_of heights widths gaps marks)) out) (7 + 8 * length (entries_of heights widths gaps marks)) (file_length (entries_of heights widths gaps marks)))

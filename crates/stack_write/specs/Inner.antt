@@ -1,7 +1,7 @@
 -- What the functions inside this crate promise each other. Nothing here is part of a public promise.
-use Rattle.std.specs.Prelude.{ℕ, ◌*◌, ◌≤◌, ◌≡◌, List, ◌++◌, length, drop}
+use Rattle.std.specs.Prelude.{ℕ, ◌+◌, ◌*◌, ◌≤◌, ◌≡◌, List, ◌++◌, length, drop, set}
 use Rattle.terms.specs.Numbers.{most_apart}
-use Rattle.stack_write.specs.File.{bytes_of}
+use Rattle.stack_write.specs.File.{low, high, bytes_of}
 use Rattle.stack_write.specs.Call.{entries_of}
 
 -- The writer's lists are equally long.
@@ -14,6 +14,10 @@ pub record Writable (heights widths gaps marks out : List ℕ) : Type 0 where
   pub lists : Lists heights widths gaps marks
   pub few : length heights ≤ most_apart
   pub room : 8 * length heights ≤ length out
+
+-- A buffer that holds a number's two bytes at one place.
+abbrev pub word_into : ℕ → ℕ → List ℕ → List ℕ
+word_into at x old = set (set old at (low x)) (at + 1) (high x)
 
 -- A buffer that holds the components' bytes, and behind them what it held.
 abbrev pub body_into : List ℕ → List ℕ → List ℕ → List ℕ → List ℕ → List ℕ

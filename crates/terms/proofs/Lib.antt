@@ -6,3 +6,4 @@ pub mod Answers
 pub mod Bools
 pub mod Lists
 pub mod Order
+pub mod Pieces

@@ -41,10 +41,10 @@ pub length-map : (f : Component → ℕ) (cs : List Component) → length (map f
 length-map f [] = refl
 length-map f (c ∷ cs) = ap suc (length-map f cs)
 
-none : Component
+pub none : Component
 none = record { height = record { 0 = 0 }; width = record { 0 = 0 }; gap = record { 0 = 0 }; mark = 0 }
 
-marked_at : (cs : List Component) → AllMarked cs → (i : ℕ) → (get_or cs i none).mark ≤ 1
+pub marked_at : (cs : List Component) → AllMarked cs → (i : ℕ) → (get_or cs i none).mark ≤ 1
 unfolding none
 marked_at [] a i = omega arith
 marked_at (c ∷ cs) a zero = a.0

@@ -8,6 +8,7 @@ use native.Mathlib.Numerals.{add-one}
 use native.Mathlib.Omega.{arith}
 use lib.ListN.{length, get_or, drop, set, length-append, drop_of_length-le, get_or-append}
 use lib.Seq.{drop-cons, set_at, append_snoc, get_or_at}
+use Rattle.std.proofs.lemmas.List.{map-append}
 use Rattle.terms.specs.Component.{tabulate}
 
 module _ {A : Type 0} (g : ℕ → A) where
@@ -43,17 +44,13 @@ tabulate_same g h zero e = refl
 tabulate_same g h (suc n) e = rw (tabulate_same g h n (λ i l. e i (omega arith)), e n (omega arith))
 
 -- A loop that writes element i in its turn i has filled a list so far.
-pub tabulate-set : (g : ℕ → ℕ) (old : List ℕ) (i : ℕ) → i < length old → set (tabulate g i ++ drop i old) i (g i) ≡ tabulate g (i + 1) ++ drop (i + 1) old
+pub tabulate-set : {A : Type 0} (g : ℕ → A) (old : List A) (i : ℕ) → i < length old → set (tabulate g i ++ drop i old) i (g i) ≡ tabulate g (i + 1) ++ drop (i + 1) old
 unfolding tabulate
 tabulate-set g old i h =
-    rw (add-one, drop-cons old i 0 h, set_at (tabulate g i) (get_or old i 0) (drop (suc i) old) (g i) i (tabulate-length g i))
+    rw (add-one, drop-cons old i (g i) h, set_at (tabulate g i) (get_or old i (g i)) (drop (suc i) old) (g i) i (tabulate-length g i))
     (sym (append_snoc (tabulate g i) (g i) (drop (suc i) old)))
 
-pub tabulate-map : {A : Type 0} (f : A → ℕ) (g : ℕ → A) (n : ℕ) → map f (tabulate g n) ≡ tabulate (λ i. f (g i)) n
+pub tabulate-map : {A B : Type 0} (f : A → B) (g : ℕ → A) (n : ℕ) → map f (tabulate g n) ≡ tabulate (λ i. f (g i)) n
 unfolding tabulate
 tabulate-map f g zero = refl
-tabulate-map f g (suc n) = map-append f (tabulate g n) (g n) ∙ ap (λ (l : List ℕ). l ++ (f (g n) ∷ [])) (tabulate-map f g n)
-  where
-    map-append : {A : Type 0} (f : A → ℕ) (l : List A) (a : A) → map f (l ++ (a ∷ [])) ≡ map f l ++ (f a ∷ [])
-    map-append f [] a = refl
-    map-append f (x ∷ l) a = ap (λ (k : List ℕ). f x ∷ k) (map-append f l a)
+tabulate-map {A} {B} f g (suc n) = map-append f (tabulate g n) (g n ∷ []) ∙ ap (λ (l : List B). l ++ (f (g n) ∷ [])) (tabulate-map f g n)

@@ -1,7 +1,6 @@
 -- What a call answers, in document 01's numbers and values.
-use Rattle.std.specs.Prelude.{ℕ, Bool, true, false}
+use Rattle.std.specs.Prelude.{ℕ, Bool, true, false, Result, Ok, Err}
 use Rattle.terms.specs.declared.Refusal.{Refusal}
-use Rattle.terms.specs.declared.Counted.{Counted}
 
 -- "The answer .. is a result or one of the .. refusals": a refusal is its number, a result its values.
 pub data Answer (A : Type 0) : Type 0 where
@@ -32,7 +31,7 @@ number_of Refusal.Unmeetable = 9
 number_of Refusal.BrokenFolding = 10
 number_of Refusal.BadMark = 11
 
--- The answer of a call that counts: the number of components, of the file's bytes or of pairs.
-abbrev pub count_answer : Counted → Answer ℕ
-count_answer (Counted.Count n) = result n
-count_answer (Counted.Refused k) = refusal (number_of k)
+-- The answer of a call: its result, or the number of its refusal.
+abbrev pub answer_of : {A : Type 0} → Result A Refusal → Answer A
+answer_of (Ok v) = result v
+answer_of (Err k) = refusal (number_of k)

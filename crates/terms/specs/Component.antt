@@ -1,7 +1,6 @@
 -- Components, and which lists of them are a stack (document 01, "Components and stack files"; ticket 3).
 use Rattle.std.specs.Prelude.{ℕ, zero, suc, ◌+◌, ◌*◌, max, List, [], ◌∷◌, ◌++◌, Bool, true, false, not, ◌&&◌, length, leb, ltb, eqb}
 use Rattle.terms.specs.declared.Component.{Component}
-use Rattle.terms.specs.declared.Rule.{Rule}
 use Rattle.terms.specs.declared.Kind.{Kind}
 use Rattle.terms.specs.declared.Kind.TheVariants.{Apart, Nested}
 use Rattle.terms.specs.Numbers.{most_size, most_apart, most_nested}
@@ -28,12 +27,6 @@ barred c = eqb c.mark 1
 abbrev pub good_mark : Component → Bool → Bool
 good_mark c true = eqb c.mark 0
 good_mark c false = leb c.mark 1
-
--- The three, by their names in the code.
-abbrev pub rule_of : Rule → Component → Bool → Bool
-rule_of Rule.Size = good_size
-rule_of Rule.Gap = good_gap
-rule_of Rule.Mark = good_mark
 
 -- Nothing follows: the component before is the last.
 abbrev pub ends : List Component → Bool

@@ -3,3 +3,4 @@ pub mod Answer
 pub mod Component
 pub mod Seams
 pub mod Position
+pub mod Pieces

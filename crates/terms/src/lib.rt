@@ -1,10 +1,16 @@
-// The terms that every call shares: components, rows and slices, kinds, refusals, positions.
+// The terms that every call shares: components, rows and slices, kinds, refusals, positions, and the pieces of a stack that
+// was checked.
 #![tactic(auto)]
 
-ghost use Rattle.std.specs.Prelude.{◌≡◌, true};
+ghost use Rattle.std.specs.Prelude.{◌≡◌, ◌<◌, Bool};
+ghost use Rattle.terms.specs.declared.Component.{Component};
 ghost use Rattle.terms.specs.Answer.{number_of};
-ghost use Rattle.terms.specs.Component.{in_size, most_of, good_size, good_gap, good_mark, rule_of};
+ghost use Rattle.terms.specs.Component.{in_size, most_of, good_size, good_gap, good_mark};
+ghost use Rattle.terms.specs.Pieces.{piece_of, component_of};
 ghost use Rattle.terms.specs.Position.{next_of};
+
+use std::error::Error;
+use std::fmt;
 
 // The most that a height, a width or a gap may be.
 pub const MOST_SIZE: u32 = 4000;
@@ -21,14 +27,15 @@ pub const MOST_LIMIT: u32 = 2000000;
 pub const LEAST_WORK: usize = 8192;
 
 // Heights and gaps count rows.
-#[derive(Clone, Copy)]
+#[derive(Clone, Copy, Debug, PartialEq, Eq, PartialOrd, Ord)]
 pub struct Rows(pub u32);
 
 // Widths count slices.
-#[derive(Clone, Copy)]
+#[derive(Clone, Copy, Debug, PartialEq, Eq, PartialOrd, Ord)]
 pub struct Slices(pub u32);
 
-#[derive(Clone, Copy)]
+// A component as a file or a list has it. Its mark is still the number that stands there, for refusal 11 to check.
+#[derive(Clone, Copy, Debug, PartialEq, Eq)]
 pub struct Component {
     pub height: Rows,
     pub width: Slices,
@@ -37,38 +44,40 @@ pub struct Component {
     pub mark: u32,
 }
 
+// A component of a stack that was checked: each number has the 16 bits of a file, and a fold behind it is barred or not.
+#[derive(Clone, Copy, Debug, PartialEq, Eq)]
+pub struct Piece {
+    pub height: u16,
+    pub width: u16,
+    pub gap: u16,
+    pub barred: bool,
+}
+
 // Whether a call folds nested. It takes fewer components then.
-#[derive(Clone, Copy)]
+#[derive(Clone, Copy, Debug, PartialEq, Eq)]
 pub enum Kind {
     Apart,
     Nested,
 }
 
-// The refusals by their trade words, in the order of their numbers.
-#[derive(Clone, Copy)]
+// The refusals by their trade words, each with its number.
+#[derive(Clone, Copy, Debug, PartialEq, Eq)]
 pub enum Refusal {
-    WrongFile,
-    WrongVersion,
-    WrongLength,
-    StackSize,
-    BadComponent,
-    BadGap,
-    BadLimit,
-    ShortBuffer,
-    Unmeetable,
-    BrokenFolding,
-    BadMark,
-}
-
-// What a call answers that counts components, bytes or pairs.
-#[derive(Clone, Copy)]
-pub enum Counted {
-    Count(usize),
-    Refused(Refusal),
+    WrongFile = 1,
+    WrongVersion = 2,
+    WrongLength = 3,
+    StackSize = 4,
+    BadComponent = 5,
+    BadGap = 6,
+    BadLimit = 7,
+    ShortBuffer = 8,
+    Unmeetable = 9,
+    BrokenFolding = 10,
+    BadMark = 11,
 }
 
 // Where reading stands: how many components lie before.
-#[derive(Clone, Copy)]
+#[derive(Clone, Copy, Debug, PartialEq, Eq)]
 pub struct Position {
     pub before: usize,
 }
@@ -77,21 +86,29 @@ impl Refusal {
     pub fn number(self) -> u32
         ensures { result ≡ number_of self }
     {
+        self as u32
+    }
+}
+
+impl fmt::Display for Refusal {
+    fn fmt<W: fmt::Write>(&self, f: &mut fmt::Formatter<W>) -> fmt::Result {
         match self {
-            Refusal::WrongFile => 1,
-            Refusal::WrongVersion => 2,
-            Refusal::WrongLength => 3,
-            Refusal::StackSize => 4,
-            Refusal::BadComponent => 5,
-            Refusal::BadGap => 6,
-            Refusal::BadLimit => 7,
-            Refusal::ShortBuffer => 8,
-            Refusal::Unmeetable => 9,
-            Refusal::BrokenFolding => 10,
-            Refusal::BadMark => 11,
+            Refusal::WrongFile => write!(f, "wrong file"),
+            Refusal::WrongVersion => write!(f, "wrong version"),
+            Refusal::WrongLength => write!(f, "wrong length"),
+            Refusal::StackSize => write!(f, "stack size"),
+            Refusal::BadComponent => write!(f, "bad component"),
+            Refusal::BadGap => write!(f, "bad gap"),
+            Refusal::BadLimit => write!(f, "bad limit"),
+            Refusal::ShortBuffer => write!(f, "short buffer"),
+            Refusal::Unmeetable => write!(f, "unmeetable"),
+            Refusal::BrokenFolding => write!(f, "broken folding"),
+            Refusal::BadMark => write!(f, "bad fold mark"),
         }
     }
 }
+
+impl Error for Refusal {}
 
 impl Position {
     pub fn first() -> Position
@@ -125,53 +142,85 @@ pub fn most(kind: Kind) -> usize
 fn in_size(x: u32) -> bool
     ensures { result ≡ in_size x }
 {
-    if 1 <= x {
-        return x <= MOST_SIZE;
+    1 <= x && x <= MOST_SIZE
+}
+
+// What refusals 5, 6 and 11 ask of each component, which is told whether it is the last.
+pub trait Rule {
+    ghost rule: { Component → Bool → Bool };
+
+    fn stands(c: Component, last: bool) -> bool
+        ensures { result ≡ rule c last };
+}
+
+pub struct SizeRule;
+
+pub struct GapRule;
+
+pub struct MarkRule;
+
+impl Rule for SizeRule {
+    ghost rule = { good_size };
+
+    fn stands(c: Component, _last: bool) -> bool {
+        in_size(c.height.0) && in_size(c.width.0)
     }
-    false
 }
 
-// What refusals 5, 6 and 11 ask of each component.
-#[derive(Clone, Copy)]
-pub enum Rule {
-    Size,
-    Gap,
-    Mark,
-}
+impl Rule for GapRule {
+    ghost rule = { good_gap };
 
-fn size_stands(c: Component) -> bool
-    ensures { result ≡ good_size c true }
-{
-    if in_size(c.height.0) {
-        return in_size(c.width.0);
+    fn stands(c: Component, last: bool) -> bool {
+        if last {
+            return c.gap.0 == 0;
+        }
+        c.gap.0 <= MOST_SIZE
     }
-    false
 }
 
-fn gap_stands(c: Component, last: bool) -> bool
-    ensures { result ≡ good_gap c last }
-{
-    if last {
-        return c.gap.0 == 0;
+impl Rule for MarkRule {
+    ghost rule = { good_mark };
+
+    fn stands(c: Component, last: bool) -> bool {
+        if last {
+            return c.mark == 0;
+        }
+        c.mark <= 1
     }
-    c.gap.0 <= MOST_SIZE
 }
 
-fn mark_stands(c: Component, last: bool) -> bool
-    ensures { result ≡ good_mark c last }
+impl Piece {
+    pub const NONE: Piece = Piece {
+        height: 0,
+        width: 0,
+        gap: 0,
+        barred: false,
+    };
+}
+
+// A component as a piece, where its numbers have 16 bits.
+pub fn packed(c: Component) -> Piece
+    requires sizes { (c.height.0 < 65536) × (c.width.0 < 65536) }
+    requires gap { c.gap.0 < 65536 }
+    ensures { result ≡ piece_of c }
 {
-    if last {
-        return c.mark == 0;
+    Piece {
+        height: c.height.0 as u16,
+        width: c.width.0 as u16,
+        gap: c.gap.0 as u16,
+        barred: c.mark == 1,
     }
-    c.mark <= 1
 }
 
-pub fn stands(rule: Rule, c: Component, last: bool) -> bool
-    ensures { result ≡ rule_of rule c last }
-{
-    match rule {
-        Rule::Size => size_stands(c),
-        Rule::Gap => gap_stands(c, last),
-        Rule::Mark => mark_stands(c, last),
+impl From<Piece> for Component {
+    ghost from_gives = { λ p c. (c ≡ component_of p) × (c.height.0 < 65536) };
+
+    fn from(p: Piece) -> Component {
+        Component {
+            height: Rows(u32::from(p.height)),
+            width: Slices(u32::from(p.width)),
+            gap: Rows(u32::from(p.gap)),
+            mark: u32::from(p.barred),
+        }
     }
 }

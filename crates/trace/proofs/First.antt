@@ -1,4 +1,4 @@
--- The first group of a layout that three lists hold, and the rest.
+-- The first group of a layout that the lists of a plan hold, and the rest.
 use Prim.Native.Nat.{ℕ, ◌+◌, ◌-◌, ◌*◌, ◌≤◌, ◌<◌}
 use mathlib.Core.Path.{◌≡◌, refl, sym, ap, ◌∙◌}
 use mathlib.Core.List.{List, ◌++◌}

@@ -5,13 +5,19 @@ use mathlib.Core.List.{List, [], ◌∷◌, ◌++◌}
 use mathlib.Core.Bool.{true}
 use native.Mathlib.Omega.{arith}
 use lib.ListN.{length, get_or, take, drop, length-drop, length-append}
-use lib.Seq.{length-take-le, drop-drop, drop-append-add, take_at, drop-append_seam}
+use lib.Seq.{length-take-le, take_all, drop-drop, drop-append-add, take_at, drop-append_seam}
 use borrow.Rule.Slice.PartMut.{put_mid}
+use Rattle.std.proofs.lemmas.List.{take-map, drop-map}
 use Rattle.terms.specs.declared.Kind.{Kind}
+use Rattle.terms.specs.declared.Piece.{Piece}
+use Rattle.terms.specs.Pieces.{heights_in, widths_in, seams_in, columns, stack_in}
+use Rattle.terms.proofs.Pieces.{heights_length}
+use Rattle.layout.specs.declared.Entry.{Entry}
+use Rattle.layout.specs.Plan.{plan_widths, plan_ends}
 use Rattle.terms.specs.Component.{tabulate}
 use Rattle.terms.specs.Seams.{gap_at, components_in}
 use Rattle.terms.proofs.Answers.{most_256}
-use Rattle.terms.proofs.Parts.{from, back}
+use Rattle.terms.proofs.Parts.{back}
 use Rattle.folding.specs.declared.Placement.{Placement}
 use Rattle.folding.specs.Placement.{placements_of}
 use Rattle.group.specs.Rows.{gap}
@@ -25,16 +31,38 @@ use Rattle.model.specs.Layout.{candidate_for}
 use Rattle.model.proofs.Scan.{layout_empty}
 use Rattle.layout.specs.Layout.{groups, layout_of}
 use Rattle.layout.proofs.Folds.{Folds, folds_none}
-use Rattle.trace.specs.Trace.{GroupPut, FirstAsks, Met, TraceAsks, Traced}
+use Rattle.trace.specs.Trace.{GroupAsks, GroupPut, Met, TraceAsks, Traced}
 use Rattle.group.proofs.Gaps.{gap_behind_lem}
-use Rattle.layout.proofs.Columns.{components_length, lists_drop, components_take, components_drop, sized_lists}
+use Rattle.layout.proofs.Columns.{components_length, lists_take, lists_drop, components_take, components_drop, sized_lists}
 use Rattle.trace.proofs.First.{end_bounds, group_free, no_wider, rest_met, joined, placements_behind}
 
 -- The part of a list from k on, as it is lent.
-abbrev part : ℕ → List ℕ → List ℕ
+abbrev pub part : {A : Type 0} → ℕ → List A → List A
 part k l = take (length l - k) (drop k l)
 
-module _ (kind : Kind) (group g0 : ℕ) (hs ws gs widths ends out work : List ℕ) (a : TraceAsks kind group g0 hs ws gs widths ends out work) (some : 0 < length hs) where
+pub part_is : {A : Type 0} (k : ℕ) (l : List A) → part k l ≡ drop k l
+part_is k l = take_all (length l - k) (drop k l) (omega (arith, length-drop k l))
+
+module _ {kind : Kind} {group g0 : ℕ} (s : List Piece) (plan : List Entry) {out work : List ℕ}
+    (a : columns s (TraceAsks kind group g0) (plan_widths plan) (plan_ends plan) out work) (more : 0 < length s) where
+  abbrev hs : List ℕ
+  hs = heights_in s
+
+  abbrev ws : List ℕ
+  ws = widths_in s
+
+  abbrev gs : List ℕ
+  gs = seams_in s
+
+  abbrev widths : List ℕ
+  widths = plan_widths plan
+
+  abbrev ends : List ℕ
+  ends = plan_ends plan
+
+  some : 0 < length hs
+  some = rw (heights_length s) more
+
   n_is : length (components_in hs ws gs) ≡ length hs
   n_is = components_length hs ws gs
 
@@ -42,19 +70,19 @@ module _ (kind : Kind) (group g0 : ℕ) (hs ws gs widths ends out work : List �
   few = omega (arith, n_is, a.lists.few, most_256 kind)
 
   some_in : 0 < length (components_in hs ws gs)
-  some_in = omega (arith, n_is)
+  some_in = omega (arith, n_is, some)
 
-  pub first_asks : (0 < length ends) × (0 < get_or ends 0 0) × (get_or ends 0 0 ≤ length hs)
+  pub first_asks : (0 < length ends) × (0 < get_or ends 0 0) × (get_or ends 0 0 ≤ length s)
   first_asks =
       let b = end_bounds kind a.limit g0 (components_in hs ws gs) widths a.heights ends some_in few (sized_lists a.lists) a.plan in
-      (omega (arith, a.ends_long), b.0, omega (arith, b.1, n_is))
+      (omega (arith, a.ends_long), b.0, omega (arith, b.1, n_is, heights_length s))
 
-  module _ (k : ℕ) (e : k ≡ get_or ends 0 0) where
+  module _ {k : ℕ} (e : k ≡ get_or ends 0 0) where
     k_some : 0 < k
     k_some = omega (arith, first_asks.1)
 
     k_within : k ≤ length hs
-    k_within = omega (arith, first_asks.2)
+    k_within = omega (arith, first_asks.2, heights_length s)
 
     pub cap_asks : (0 < length widths) × (k < length widths) × (get_or widths k 0 ≤ get_or widths 0 0)
     cap_asks = (
@@ -66,12 +94,21 @@ module _ (kind : Kind) (group g0 : ℕ) (hs ws gs widths ends out work : List �
     free_in : unbarred (take k (components_in hs ws gs)) ≡ true
     free_in = group_free kind a.limit g0 (components_in hs ws gs) widths a.heights ends some_in few (sized_lists a.lists) a.plan k e
 
-    pub put_asks : FirstAsks kind g0 k hs ws gs out work
-    put_asks = record { lists = a.lists; some = k_some; within = k_within; free = free_in; before = a.before; room = a.room; work_room = a.work_room }
+    pub put_asks : columns (take k s) (GroupAsks kind g0) work × (3 * length (heights_in (take k s)) ≤ length out)
+    put_asks =
+        let n = length-take-le k hs k_within in
+        let r : GroupAsks kind g0 (take k hs) (take k ws) (take k gs) work = record {
+          lists = lists_take a.lists k k_within;
+          some = omega (arith, n, k_some);
+          free = rw (components_take hs ws gs k k_within) free_in;
+          before = a.before;
+          work_room = a.work_room;
+        } in
+        (simp take-map at r, omega (arith, n, ap length (take-map (λ (p : Piece). p.height) k s), k_within, a.room))
 
-    module _ (cap : ℕ) (d : cap ≡ get_or widths 0 0 - get_or widths k 0) where
+    module _ {cap : ℕ} (d : cap ≡ get_or widths 0 0 - get_or widths k 0) where
       -- The rest, behind the gap of the group's last component.
-      module _ (gap-before : ℕ) (b : gap-before ≡ gap_at gs (k - 1)) where
+      module _ {gap-before : ℕ} (b : gap-before ≡ gap_at gs (k - 1)) where
         met_rest : (limit : ℕ) (heights : List ℕ) → Met kind limit g0 (components_in hs ws gs) widths heights ends
             → Met kind limit gap-before (components_in (drop k hs) (drop k ws) (drop k gs)) (drop k widths) (drop k heights) (drop k ends)
         met_rest limit heights m =
@@ -79,14 +116,13 @@ module _ (kind : Kind) (group g0 : ℕ) (hs ws gs widths ends out work : List �
             rw (components_drop hs ws gs k k_within, b) (rw (gap_behind_lem hs ws gs k k_some k_within) at r)
 
         pub again : (put work' : List ℕ) → length put ≡ length out → length work' ≡ length work
-            → TraceAsks kind (group + 1) gap-before (part k hs) (part k ws) (part k gs) (part k widths) (part k ends) (part (3 * k) put) work'
+            → columns (part k s) (TraceAsks kind (group + 1) gap-before) (plan_widths (part k plan)) (plan_ends (part k plan)) (part (3 * k) put) work'
         again put work' f g =
             let u = length-drop k hs in
             let v = length-drop k widths in
             let w = length-drop k ends in
             let z = length-drop (3 * k) put in
-            rw (from k hs, from k ws, from k gs, from k widths, from k ends, from (3 * k) put)
-            (record {
+            let r : TraceAsks kind (group + 1) gap-before (drop k hs) (drop k ws) (drop k gs) (drop k widths) (drop k ends) (drop (3 * k) put) work' = record {
               lists = lists_drop a.lists k k_within;
               before = rw b (a.lists.near (k - 1));
               number = omega (arith, a.number, k_some, k_within);
@@ -97,9 +133,10 @@ module _ (kind : Kind) (group g0 : ℕ) (hs ws gs widths ends out work : List �
               limit = a.limit;
               heights = drop k a.heights;
               plan = met_rest a.limit a.heights a.plan;
-            })
+            } in
+            rw (part_is k s, part_is k plan, part_is (3 * k) put) (simp drop-map at r)
 
-        module _ (put : List ℕ) (g : GroupPut kind group g0 cap (take k hs) (take k ws) (take k gs) out put) where
+        module _ {put : List ℕ} (g : GroupPut kind group g0 cap (take k hs) (take k ws) (take k gs) out put) where
           group_long : length (components_in (take k hs) (take k ws) (take k gs)) ≡ k
           group_long = components_length (take k hs) (take k ws) (take k gs) ∙ length-take-le k hs k_within
 
@@ -133,9 +170,11 @@ module _ (kind : Kind) (group g0 : ℕ) (hs ws gs widths ends out work : List �
           put_rest = rw put_is (rw flat_long at (drop-append_seam (flat_of ps) (drop (3 * k) out)))
 
           -- The whole, once the rest is traced.
-          module _ (new : List ℕ) (t : Traced kind (group + 1) gap-before (components_in (part k hs) (part k ws) (part k gs)) (part k widths) (part k ends) (part (3 * k) put) new) where
+          module _ {new : List ℕ} (t : Traced kind (group + 1) gap-before (stack_in (part k s)) (plan_widths (part k plan)) (plan_ends (part k plan)) (part (3 * k) put) new) where
             traced_rest : Traced kind (group + 1) gap-before (drop k (components_in hs ws gs)) (drop k widths) (drop k ends) (drop (3 * k) out) new
-            traced_rest = rw (from k hs, from k ws, from k gs, from k widths, from k ends, from (3 * k) put, components_drop hs ws gs k k_within, put_rest) at t
+            traced_rest =
+                let r : Traced kind (group + 1) gap-before (components_in (drop k hs) (drop k ws) (drop k gs)) (drop k widths) (drop k ends) (drop (3 * k) put) new = simp drop-map (rw (part_is k s, part_is k plan, part_is (3 * k) put) at t) in
+                rw (components_drop hs ws gs k k_within, put_rest) at r
 
             all : List ℕ
             all = flat_of ps ++ new
@@ -166,7 +205,7 @@ module _ (kind : Kind) (group g0 : ℕ) (hs ws gs widths ends out work : List �
                 })
 
 -- Nothing is left.
-pub nothing : (kind : Kind) (group g0 : ℕ) (hs ws gs widths ends out : List ℕ) → length hs ≤ 0 → Traced kind group g0 (components_in hs ws gs) widths ends out out
+pub nothing : {kind : Kind} {group g0 : ℕ} (s : List Piece) {widths ends out : List ℕ} → length s ≤ 0 → Traced kind group g0 (stack_in s) widths ends out out
 unfolding tabulate
-nothing kind group g0 [] ws gs widths ends out h = record { folds = λ limit heights m. rw (layout_empty (λ x. gap x) (candidate_for (groups kind) limit) g0) (folds_none kind group g0); beyond = refl; long = refl }
-nothing kind group g0 (x ∷ hs) ws gs widths ends out h = absurd (omega arith)
+nothing {kind} {group} {g0} [] h = record { folds = λ limit heights m. rw (layout_empty (λ x. gap x) (candidate_for (groups kind) limit) g0) (folds_none kind group g0); beyond = refl; long = refl }
+nothing (x ∷ s) h = absurd (omega arith)

@@ -1,5 +1,6 @@
--- Tracing back the best layout that three lists hold. Nothing here is part of a public promise.
-use Rattle.std.specs.Prelude.{ℕ, ◌+◌, ◌*◌, ◌≤◌, ◌<◌, ◌≡◌, List, ◌++◌, true, length, take, drop}
+-- Tracing back the best layout that a plan holds, of which the trace reads the widths and the ends. Nothing here is part of
+-- a public promise.
+use Rattle.std.specs.Prelude.{ℕ, ◌+◌, ◌*◌, ◌≤◌, ◌<◌, ◌≡◌, List, ◌++◌, true, length, drop}
 use Rattle.numbers.specs.Table.{cells}
 use Rattle.terms.specs.Numbers.{most_size, most_apart, most_nested}
 use Rattle.terms.specs.declared.Component.{Component}
@@ -30,16 +31,6 @@ pub record GroupPut (kind : Kind) (group g0 cap : ℕ) (hs ws gs old new : List 
   pub at : ℕ
   pub point : FoldPoint kind g0 (components_in hs ws gs) cap at
   pub holds : new ≡ flat_of (group_places cap (bare hs ws) group at) ++ drop (3 * length hs) old
-
--- The first k components of a stack are such a group.
-pub record FirstAsks (kind : Kind) (g0 k : ℕ) (hs ws gs out work : List ℕ) : Type 0 where
-  pub lists : StackLists kind hs ws gs
-  pub some : 0 < k
-  pub within : k ≤ length hs
-  pub free : unbarred (take k (components_in hs ws gs)) ≡ true
-  pub before : g0 ≤ most_size
-  pub room : 3 * length hs ≤ length out
-  pub work_room : cells ≤ length work
 
 -- The lists hold the best layouts for the limit, and that of the whole keeps it.
 pub record Met (kind : Kind) (limit g0 : ℕ) (cs : List Component) (widths heights ends : List ℕ) : Type 0 where

@@ -1,24 +1,28 @@
-use Rattle.fold_area.specs.Calls.{by_area}
-use Rattle.fold.proofs.Answering.{refused_file, of_file}
-use Rattle.fold.proofs.Held.{first_held}
+use mathlib.Core.Path.{refl, sym, ap, ◌∙◌}
+use native.Mathlib.Omega.{arith}
+use Rattle.std.proofs.lemmas.Result.{err_from_is_err_and}
+use Rattle.terms.specs.Answer.{answer_of}
 use Rattle.stack.proofs.Reading.{read_held, read_refused}
-use Rattle.folding.specs.Calls.{measured_answer}
-use Rattle.terms.specs.Answer.{count_answer}
-use mathlib.Core.Path.{refl, ap}
+use Rattle.fold.proofs.Answering.{refused_file, search_asks, answered}
+use Rattle.fold_area.specs.Calls.{by_area}
 use Rattle.fold_area.proofs.smallest_area.Goals as goal
 
-pub first_smallest-requires : goal.first_smallest-requires
-first_smallest-requires c =
-    first_held (read_held _ _ _ _ _ refl refl refl c.read_seams.ensures _ (ap count_answer c.in-Count.is))
-    c.read_seams.auto.heights c.read_seams.auto.widths c.read_seams.auto.seams
+pub returns-in_err-n : goal.returns-in_err-n
+returns-in_err-n c =
+    let a = c.args in
+    let p = err_from_is_err_and c.from_residual.result c.from_residual.ensures.1 in
+    rw (p.1, p.2) (refused_file (by_area a.kind) a.kind 1 a.out.now a.work.now a.file.now _
+    (read_refused _ _ _ refl c.read_pieces.ensures _ (ap answer_of c.in_err-n.was)))
 
-pub returns-in-Refused : goal.returns-in-Refused
-returns-in-Refused c =
-    let a = c.args in refused_file (by_area a.kind) a.kind 1 a.out.now a.work.now a.file.now _
-    (read_refused _ _ _ _ _ refl refl refl c.read_seams.ensures _ (ap count_answer c.in-Refused.is))
+pub write_smallest-requires : goal.write_smallest-requires
+write_smallest-requires c =
+    let h = read_held _ _ _ refl c.read_pieces.ensures _ (ap answer_of c.in_ok-n.was) in
+    let q = search_asks h 1 c.args.out.now c.args.work.now _ (sym c.check_room.ensures ∙ ap answer_of c.in_ok-check_room.was) in
+    (q.0, omega arith, q.2)
 
-pub returns-in-Count : goal.returns-in-Count
-returns-in-Count c =
-    let a = c.args in of_file (by_area a.kind) a.kind 1 a.out.now a.work.now
-    (read_held _ _ _ _ _ refl refl refl c.read_seams.ensures _ (ap count_answer c.in-Count.is)) c.first_smallest.new.out
-    c.first_smallest.new.work (measured_answer c.first_smallest.result) c.first_smallest.ensures
+pub returns : goal.returns
+returns c =
+    let a = c.args in
+    let h = read_held _ _ _ refl c.read_pieces.ensures _ (ap answer_of c.in_ok-n.was) in
+    answered h 1 a.out.now a.work.now _ (sym c.check_room.ensures ∙ ap answer_of c.in_ok-check_room.was) (by_area a.kind)
+    c.write_smallest.new.out _ (answer_of c.write_smallest.result) c.write_smallest.ensures

@@ -1,23 +1,24 @@
-use mathlib.Core.Path.{ap}
+use mathlib.Core.Path.{refl, ap}
+use Rattle.std.proofs.lemmas.Result.{err_from_is_err_and}
+use Rattle.terms.specs.Answer.{answer_of}
 use Rattle.stack.proofs.Reading.{read_held, read_refused}
-use Rattle.terms.specs.Answer.{count_answer}
-use Rattle.fold.proofs.Held.{first_held}
-use Rattle.fold_table.proofs.Tables.{refused_file, of_file}
-use mathlib.Core.Path.{refl}
+use Rattle.fold_table.proofs.Tables.{refused_file, of_file, list_asks, tabled}
 use Rattle.fold_table.proofs.table.Goals as goal
 
-pub first_outlines-requires : goal.first_outlines-requires
-first_outlines-requires c =
-    first_held (read_held _ _ _ _ _ refl refl refl c.read_seams.ensures _ (ap count_answer c.in-Count.is))
-    c.read_seams.auto.heights c.read_seams.auto.widths c.read_seams.auto.seams
+pub returns-in_err-n : goal.returns-in_err-n
+returns-in_err-n c =
+    let a = c.args in
+    let p = err_from_is_err_and c.from_residual.result c.from_residual.ensures.1 in
+    rw (p.1, p.2) (refused_file a.kind a.out.now a.work.now a.file.now _
+    (read_refused _ _ _ refl c.read_pieces.ensures _ (ap answer_of c.in_err-n.was)))
 
-pub returns-in-Refused : goal.returns-in-Refused
-returns-in-Refused c =
-    let a = c.args in refused_file a.kind a.out.now a.work.now a.file.now _
-    (read_refused _ _ _ _ _ refl refl refl c.read_seams.ensures _ (ap count_answer c.in-Refused.is))
+pub list_outlines-requires : goal.list_outlines-requires
+list_outlines-requires c =
+    list_asks (read_held _ _ _ refl c.read_pieces.ensures _ (ap answer_of c.in_ok-n.was)) c.if-work-lt-LEAST_WORK.false
 
-pub returns-in-Count : goal.returns-in-Count
-returns-in-Count c =
-    let a = c.args in of_file a.kind a.out.now a.work.now (read_held _ _ _ _ _ refl refl refl c.read_seams.ensures _
-    (ap count_answer c.in-Count.is)) c.first_outlines.new.out c.first_outlines.new.work
-    (count_answer c.first_outlines.result) c.first_outlines.ensures
+pub returns : goal.returns
+returns c =
+    let a = c.args in
+    let h = read_held _ _ _ refl c.read_pieces.ensures _ (ap answer_of c.in_ok-n.was) in
+    of_file a.kind a.out.now a.work.now h c.list_outlines.new.out c.list_outlines.new.work (answer_of c.list_outlines.result)
+    (tabled _ _ _ _ _ _ _ c.if-work-lt-LEAST_WORK.false c.list_outlines.ensures)

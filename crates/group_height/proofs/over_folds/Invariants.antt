@@ -1,10 +1,7 @@
-use Prim.Native.Nat.{◌-◌}
-use lib.ListN.{length}
-use Rattle.group_height.proofs.Passing.{Passing}
+use Prim.Native.Nat.{◌≤◌}
+use Rattle.terms.specs.Pieces.{seams_in}
+use Rattle.group_height.specs.Inner.{Pass}
 use Rattle.group_height.proofs.over_folds.Given as goal
 
 abbrev pub invariant-loop-p : goal.invariant-loop-p
-invariant-loop-p l = Passing l.before l.g l.e l.v l.at l.p
-
-abbrev pub decreases-loop-p : goal.decreases-loop-p
-decreases-loop-p l = length l.g - l.p
+invariant-loop-p l = (l.v ≤ 600000) × Pass l.before (seams_in l.stack) l.e l.p l.v l.at

@@ -1,9 +1,6 @@
-use mathlib.Core.Path.{sym, ◌∙◌}
+use mathlib.Core.Path.{◌∙◌}
 use Rattle.group_memory.proofs.Memory.{part_long, part_asks, found_small, searched}
 use Rattle.group_memory.proofs.search.Goals as goal
-
-pub slice_bounds-narrowest-end-2 : goal.slice_bounds-narrowest-end-2
-slice_bounds-narrowest-end-2 c = sym (part_long c.requires)
 
 pub narrowest-fit-requires : goal.narrowest-fit-requires
 narrowest-fit-requires c = part_asks c.requires

@@ -1,8 +1,15 @@
-use Rattle.group_search.proofs.Turns.{turn_done, row_ends}
+use mathlib.Core.Path.{◌≡◌}
+use lib.ListN.{length}
+use Rattle.terms.specs.Pieces.{heights_in}
+use Rattle.terms.proofs.Pieces.{heights_length}
+use Rattle.group_search.proofs.Walks.{move_on}
+use native.Mathlib.Omega.{arith}
 use Rattle.group_search.proofs.over_row.Goals as goal
 
 pub loop-q-preserved : goal.loop-q-preserved
-loop-q-preserved c = turn_done c.requires c.loop-q.invariant c.turn-best.auto.e c.loop-q-test.true c.turn-best.ensures
+loop-q-preserved c = move_on c.loop-q.invariant c.turn-best.ensures
 
 pub returns : goal.returns
-returns c = row_ends c.requires c.loop-q.invariant c.loop-q-test.false
+returns c =
+    let z : c.loop-q.q ≡ length (heights_in c.args.stack.now) = omega (arith, c.requires.more, heights_length c.args.stack.now) in
+    rw z at c.loop-q.invariant

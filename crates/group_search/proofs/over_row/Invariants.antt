@@ -1,12 +1,6 @@
-use Prim.Native.Nat.{◌-◌}
-use lib.ListN.{length}
-use Rattle.group_search.proofs.Turns.{Rowing}
+use Rattle.terms.specs.Pieces.{sizes}
+use Rattle.group_search.specs.Inner.{Moved}
 use Rattle.group_search.proofs.over_row.Given as goal
 
 abbrev pub invariant-loop-q : goal.invariant-loop-q
-invariant-loop-q l =
-    Rowing l.h l.w l.initial.e l.e l.cap.0 l.initial.best.height.0 l.initial.best.fit.0 l.initial.best.clash.0
-    l.best.height.0 l.best.fit.0 l.best.clash.0 l.p l.q
-
-abbrev pub decreases-loop-q : goal.decreases-loop-q
-decreases-loop-q l = length l.h - l.q
+invariant-loop-q l = sizes l.stack Moved l.initial.e l.e l.cap.0 l.initial.best l.best l.p l.p l.p l.q

@@ -1,8 +1,14 @@
-use Rattle.group_search.proofs.Turns.{row_done, rows_end}
+use mathlib.Core.Path.{◌≡◌}
+use Rattle.terms.proofs.Pieces.{heights_length}
+use Rattle.group_search.proofs.Walks.{move_on, move_row}
+use native.Mathlib.Omega.{arith}
 use Rattle.group_search.proofs.over_rows.Goals as goal
 
 pub loop-p-preserved : goal.loop-p-preserved
-loop-p-preserved c = row_done c.requires c.loop-p.invariant c.over_row-best.auto.e c.loop-p-test.true c.over_row-best.ensures
+loop-p-preserved c = record {
+  some = omega (arith, c.loop-p-test.true);
+  moved = move_on (move_row c.loop-p.invariant.some (omega (arith, heights_length c.args.stack.now)) c.loop-p.invariant.moved) c.over_row-best.ensures;
+}
 
 pub returns : goal.returns
-returns c = rows_end c.requires c.loop-p.invariant c.loop-p-test.false
+returns c = let z : c.loop-p.p ≡ 1 = omega (arith, c.loop-p.invariant.some, c.loop-p-test.false) in rw z at c.loop-p.invariant.moved

@@ -10,16 +10,13 @@ ends-preserved-then-left-right c =
     to_left c.requires c.ends.invariant (c.beside.ensures.left_there c.ends-test.true)
     (omega (arith, c.beside.ensures.right_there c.ends-test.true, c.requires.columns.same))
     (c.beside.ensures.fits c.ends-test.true) _
-    (omega (arith, c.larger-fit.ensures, c.get.ensures.value, c.get-in-ends.ensures.value)) _
-    (omega (arith, c.get-in-ends-2.ensures.value)) (omega (arith, c.if-left-right.true, c.get-in-ends-3.ensures.value))
+    (omega (arith, c.max-fit.ensures, c.width.ensures.value, c.width-in-ends.ensures.value)) _
+    (omega (arith, c.height.ensures.value)) (omega (arith, c.if-left-right.true, c.height-in-ends.ensures.value))
 
 pub ends-preserved : goal.ends-preserved
 ends-preserved c =
     to_right c.requires c.ends.invariant (c.beside.ensures.left_there c.ends-test.true)
     (omega (arith, c.beside.ensures.right_there c.ends-test.true, c.requires.columns.same))
     (c.beside.ensures.fits c.ends-test.true) _
-    (omega (arith, c.larger-fit.ensures, c.get.ensures.value, c.get-in-ends.ensures.value)) _
-    (omega (arith, c.get-in-ends-3.ensures.value)) (omega (arith, c.if-left-right.false, c.get-in-ends-2.ensures.value))
-
-pub returns-clause-stopped : goal.returns-clause-stopped
-returns-clause-stopped c = λ z y. c.beside.ensures.clash c.ends-test.false z (omega (arith, c.requires.columns.same))
+    (omega (arith, c.max-fit.ensures, c.width.ensures.value, c.width-in-ends.ensures.value)) _
+    (omega (arith, c.height-in-ends.ensures.value)) (omega (arith, c.if-left-right.false, c.height.ensures.value))

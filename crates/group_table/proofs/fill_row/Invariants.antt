@@ -1,8 +1,7 @@
-use Rattle.group_table.proofs.Filling.{Row}
+use Prim.Native.Nat.{◌≤◌}
+use Rattle.terms.specs.Pieces.{sizes}
+use Rattle.group_table.specs.Inner.{RowDone}
 use Rattle.group_table.proofs.fill_row.Given as goal
 
 abbrev pub invariant-loop-q : goal.invariant-loop-q
-invariant-loop-q l = Row l.h l.w l.initial.e l.e l.cap.0 l.p l.q
-
-abbrev pub decreases-loop-q : goal.decreases-loop-q
-decreases-loop-q l = l.q
+invariant-loop-q l = (l.p ≤ l.q) × sizes l.stack RowDone l.initial.e l.e l.cap.0 l.p l.q

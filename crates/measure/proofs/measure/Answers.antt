@@ -1,18 +1,16 @@
-use Rattle.measure.proofs.Measuring.{first_held, measure_held}
-use Rattle.terms.specs.Answer.{count_answer}
+use Rattle.std.proofs.Common.{refl, ◌∙◌}
+use Rattle.std.proofs.lemmas.Result.{err_from_is_err_and}
 use Rattle.stack.proofs.Reading.{read_held, read_refused}
-use mathlib.Core.Path.{refl, ap, ◌∙◌}
+use Rattle.measure.proofs.Measuring.{stack_held, measure_held}
 use Rattle.measure.proofs.measure.Goals as goal
 
-pub measure_first-requires : goal.measure_first-requires
-measure_first-requires c =
-    let h = read_held _ _ _ _ _ refl refl refl c.read_seams.ensures c.in-Count.n (ap count_answer c.in-Count.is) in
-    first_held h c.read_seams.auto.heights c.read_seams.auto.widths c.read_seams.auto.seams
+pub returns-in_err-n : goal.returns-in_err-n
+returns-in_err-n c =
+    let p = err_from_is_err_and c.from_residual.result c.from_residual.ensures.1 in
+    rw (p.1, p.2, read_refused _ _ _ refl c.in_err-n.ensures _ refl)
 
-pub returns-in-Refused : goal.returns-in-Refused
-returns-in-Refused c = rw (read_refused _ _ _ _ _ refl refl refl c.read_seams.ensures _ (ap count_answer c.in-Refused.is))
+pub measure_stack-requires : goal.measure_stack-requires
+measure_stack-requires c = stack_held (read_held _ _ _ refl c.in_ok-n.ensures _ refl)
 
-pub returns-in-Count : goal.returns-in-Count
-returns-in-Count c =
-    let h = read_held _ _ _ _ _ refl refl refl c.read_seams.ensures c.in-Count.n (ap count_answer c.in-Count.is) in
-    c.measure_first.ensures ∙ measure_held h c.args.flat.now
+pub returns : goal.returns
+returns c = c.measure_stack.ensures ∙ measure_held (read_held _ _ _ refl c.in_ok-n.ensures _ refl) c.args.flat.now

@@ -1,25 +1,27 @@
-use mathlib.Core.List.{[]}
+use Rattle.std.proofs.Common.{arith}
+use Rattle.terms.specs.Pieces.{heights_in, seams_in}
+use Rattle.terms.proofs.Pieces.{heights_length}
 use Rattle.outline.proofs.Chains.{chains_of}
-use Rattle.outline.proofs.Placing.{has_left, height_folded, height_flat}
-use native.Mathlib.Omega.{arith}
+use Rattle.outline.proofs.Placing.{height_folded, height_flat}
 use Rattle.outline.proofs.group_height.Goals as goal
 
 pub top-t-requires : goal.top-t-requires
-top-t-requires c = (c.requires.group_flat.0, (c.args.k, chains_of c.requires.group_flat.0 c.requires.lefts.0))
-
-pub overflow_sub-k : goal.overflow_sub-k
-overflow_sub-k c = omega (
-  arith,
-  has_left c.args.heights.now [] c.args.seams.now c.args.flat.now _
-      c.requires.group_flat.0.some c.requires.group_flat.0.first_left c.requires.lefts.0 0,
-)
+top-t-requires c = (c.requires.group_flat, (c.args.k, chains_of c.requires.group_flat c.requires.lefts))
 
 pub returns-then-k-n : goal.returns-then-k-n
-returns-then-k-n c = λ ws. rw (height_folded c.args.heights.now ws c.args.seams.now c.args.flat.now _
-    c.requires.group_flat.0.some c.requires.group_flat.0.first_left c.requires.lefts.0 c.args.before.0 c.if-k-n.true)
-    (omega (arith, c.top-t.ensures.result_value, c.larger.ensures, c.gap-g1.ensures.value, c.gap.ensures.value))
+returns-then-k-n c = λ ws. let n = heights_length c.args.stack.now in let t = rw n at c.top-t.ensures.result_value in
+    rw (
+      height_folded (heights_in c.args.stack.now) ws (seams_in c.args.stack.now) c.args.flat.now _
+          c.requires.group_flat.some c.requires.group_flat.first_left c.requires.lefts c.args.before.0 (omega (arith, n)),
+      n,
+    )
+    (omega (arith, t))
 
-pub returns : goal.returns
-returns c = λ ws. rw (height_flat c.args.heights.now ws c.args.seams.now c.args.flat.now _ c.requires.group_flat.0.some
-    c.requires.group_flat.0.first_left c.requires.lefts.0 c.args.before.0 c.if-k-n.false)
-    (omega (arith, c.top-t.ensures.result_value, c.gap-g1.ensures.value))
+pub returns-else-k-n : goal.returns-else-k-n
+returns-else-k-n c = λ ws. let n = heights_length c.args.stack.now in let t = rw n at c.top-t.ensures.result_value in
+    rw (
+      height_flat (heights_in c.args.stack.now) ws (seams_in c.args.stack.now) c.args.flat.now _
+          c.requires.group_flat.some c.requires.group_flat.first_left c.requires.lefts c.args.before.0 (omega (arith, n)),
+      n,
+    )
+    (omega (arith, t))

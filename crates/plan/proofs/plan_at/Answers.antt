@@ -1,56 +1,31 @@
-use Rattle.plan.proofs.Remembering.{row_low}
-use Rattle.plan.proofs.Planning.{from_asks, entry_room, entry_row, entry_stays, entry_more}
-use Rattle.terms.proofs.Answers.{most_256}
-use mathlib.Core.Path.{refl}
-use lib.ListN.{length}
-use Prim.Native.Nat.{◌-◌}
+use Rattle.std.proofs.lemmas.List.{drop-map, map-set}
+use Rattle.terms.proofs.Pieces.{heights_length}
+use Rattle.plan.proofs.Columns.{height_at}
+use Rattle.plan.proofs.Planning.{from_asks, entry_room, row_most, entry_row, entry_stays, entry_more}
 use native.Mathlib.Omega.{arith}
 use Rattle.plan.proofs.plan_at.Goals as goal
 
 pub ready_row-requires : goal.ready_row-requires
-ready_row-requires c = entry_room c.requires _ refl
+ready_row-requires c = rw (heights_length c.args.stack.now) at (entry_room c.requires)
 
 pub returns-then-stays : goal.returns-then-stays
 returns-then-stays c =
-    let s = c.stays.ensures c.if-stays.true in entry_stays c.requires c.ready_row.new.work c.ready_row.ensures s.0 s.1
+    let s = c.stays.ensures c.if-stays.true in
+    entry_stays c.requires c.ready_row.new.work (rw (heights_length c.args.stack.now) c.ready_row.ensures) s.0
+    (omega (arith, height_at c.args.plan.now c.args.i, s.1))
 
-pub best_from-b-requires-clause-from_asks : goal.best_from-b-requires-clause-from_asks
-best_from-b-requires-clause-from_asks c = from_asks c.requires
+pub best_from-requires-clause-from_asks : goal.best_from-requires-clause-from_asks
+best_from-requires-clause-from_asks c = from_asks c.requires
 
-pub best_from-b-requires-clause-row_asks : goal.best_from-b-requires-clause-row_asks
-best_from-b-requires-clause-row_asks c = entry_row c.requires c.ready_row.new.work c.ready_row.ensures
+pub best_from-requires-clause-row_asks : goal.best_from-requires-clause-row_asks
+best_from-requires-clause-row_asks c =
+    simp drop-map at (entry_row c.requires c.ready_row.new.work (rw (heights_length c.args.stack.now) c.ready_row.ensures))
 
-pub best_from-b-requires-clause-row_le_most_row : goal.best_from-b-requires-clause-row_le_most_row
-best_from-b-requires-clause-row_le_most_row c =
-    omega (
-      arith,
-      c.requires.row_is,
-      row_low (length c.args.h.now - c.args.i) (omega (
-        arith,
-        c.requires.asks.lists.few,
-        most_256 c.args.kind,
-      )),
-    )
-
-pub offset_bounds-widths-i : goal.offset_bounds-widths-i
-offset_bounds-widths-i c = omega (arith, c.requires.within, c.requires.asks.lists.few, most_256 c.args.kind)
-
-pub bounds-widths-i : goal.bounds-widths-i
-bounds-widths-i c = omega (arith, c.requires.within, c.requires.asks.widths_long)
-
-pub offset_bounds-heights-i-2 : goal.offset_bounds-heights-i-2
-offset_bounds-heights-i-2 c = omega (arith, c.requires.within, c.requires.asks.lists.few, most_256 c.args.kind)
-
-pub bounds-heights-i-2 : goal.bounds-heights-i-2
-bounds-heights-i-2 c = omega (arith, c.requires.within, c.requires.asks.heights_long)
-
-pub offset_bounds-ends-i-2 : goal.offset_bounds-ends-i-2
-offset_bounds-ends-i-2 c = omega (arith, c.requires.within, c.requires.asks.lists.few, most_256 c.args.kind)
-
-pub bounds-ends-i-2 : goal.bounds-ends-i-2
-bounds-ends-i-2 c = omega (arith, c.requires.within, c.requires.asks.ends_long)
+pub best_from-requires-clause-row_le_most_row : goal.best_from-requires-clause-row_le_most_row
+best_from-requires-clause-row_le_most_row c = row_most c.requires
 
 pub returns : goal.returns
 returns c =
-    entry_more c.requires c.ready_row.new.work c.ready_row.ensures _ c.best_from-b.result c.best_from-b.ensures.result_value
-    c.best_from-b.ensures.row_done
+    simp map-set
+    (entry_more c.requires c.ready_row.new.work (rw (heights_length c.args.stack.now) c.ready_row.ensures) c.best_from.new.work
+    c.best_from.result c.best_from.ensures.result_value (simp drop-map c.best_from.ensures.row_done))

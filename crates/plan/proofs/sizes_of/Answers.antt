@@ -1,17 +1,10 @@
-use mathlib.Core.Path.{refl}
-use Rattle.plan.proofs.Sizing.{sizes_start, sizes_more, sizes_all}
+use Rattle.plan.proofs.Sizing.{sizes_start, sizes_more}
 use native.Mathlib.Omega.{arith}
 use Rattle.plan.proofs.sizes_of.Goals as goal
 
 pub loop-i-init : goal.loop-i-init
-loop-i-init c = (sizes_start _ _, omega arith)
+loop-i-init c = sizes_start _ _
 
 pub loop-i-preserved : goal.loop-i-preserved
-loop-i-preserved c = (
-  sizes_more c.requires c.loop-i.invariant.0 c.loop-i-test.true _ _ _ c.wide-tall.ensures.value c.wide.ensures.value
-      c.larger-widest.ensures,
-  omega arith,
-)
-
-pub returns : goal.returns
-returns c = sizes_all c.requires c.loop-i.invariant.0 _ (omega (arith, c.loop-i.invariant.1)) refl refl
+loop-i-preserved c =
+    sizes_more c.requires.low (omega (arith, c.requires.in_heights)) c.loop-i.invariant c.plus-sizes.ensures.tall c.plus-sizes.ensures.widest

@@ -1,10 +1,11 @@
-use Prim.Native.Nat.{◌-◌}
-use Rattle.stack.proofs.Filling.{Filling}
+use Rattle.std.proofs.Common.{◌-◌, ◌≤◌}
+use Rattle.stack.specs.Inner.{Filled}
 use Rattle.stack.proofs.fill.Given as goal
 
 abbrev pub invariant-loop-p : goal.invariant-loop-p
 invariant-loop-p l =
-    Filling l.file l.n l.initial.heights l.initial.widths l.initial.seams l.heights l.widths l.seams l.p.before
+    let o = l.initial in
+    (l.p.before ≤ l.n) × Filled l.file l.p.before o.heights o.widths o.gaps o.marks l.heights l.widths l.gaps l.marks
 
 abbrev pub decreases-loop-p : goal.decreases-loop-p
 decreases-loop-p l = l.n - l.p.before

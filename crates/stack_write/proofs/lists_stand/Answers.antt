@@ -1,25 +1,16 @@
+use Rattle.std.proofs.Common.{arith, sym, ◌∙◌}
 use Rattle.terms.proofs.Every.{every_kept, every_broken, every_done}
-use Rattle.terms.proofs.Moves.{moves}
-use native.Mathlib.Omega.{arith}
-use mathlib.Core.Path.{sym, ◌∙◌}
 use Rattle.stack_write.proofs.lists_stand.Goals as goal
 
-pub loop-p-init : goal.loop-p-init
-loop-p-init c = let e = c.first-p.ensures in (omega arith, rw e)
-
 pub returns-then-not-stands : goal.returns-then-not-stands
-returns-then-not-stands c =
+returns-then-not-stands g c =
     let b = sym c.stands.ensures ∙ c.if-not-stands.true in
-    every_broken _ _ _ _ c.loop-p-test.true (rw (← c.entry-c.ensures) b) c.loop-p.invariant.1
+    every_broken _ _ _ _ (omega arith) (rw (← c.entry.ensures) b) c.loop-i.invariant
 
-pub loop-p-smaller : goal.loop-p-smaller
-loop-p-smaller c = omega (arith, c.next-p.ensures ∙ moves c.loop-p.p.before (omega arith))
-
-pub loop-p-preserved : goal.loop-p-preserved
-loop-p-preserved c =
-    let m = c.next-p.ensures ∙ moves c.loop-p.p.before (omega arith) in
+pub loop-i-preserved : goal.loop-i-preserved
+loop-i-preserved g c =
     let b = sym c.stands.ensures ∙ c.if-not-stands.false in
-    (omega arith, rw m (every_kept _ _ _ _ c.loop-p-test.true (rw (← c.entry-c.ensures) b) c.loop-p.invariant.1))
+    every_kept _ _ _ _ (omega arith) (rw (← c.entry.ensures) b) c.loop-i.invariant
 
 pub returns : goal.returns
-returns c = every_done _ _ _ _ c.loop-p-test.false c.loop-p.invariant.1
+returns g c = every_done _ _ _ _ (omega arith) c.loop-i.invariant
