@@ -9,7 +9,6 @@ ghost use Rattle.layout.specs.Plan.{StackLists, lists};
 ghost use Rattle.best.specs.Asks.{Foldable, Replannable, Written, CellsOf, Unfolded};
 
 use folding::Outline;
-use group::NONE;
 use layout::Entry;
 use terms::{Kind, Piece, Refusal, Rows, Slices};
 
@@ -85,10 +84,7 @@ pub fn write_best(
     ensures { Written kind (stack_in stack.now) limit.0
         out.old out.new (answer_of result) }
 {
-    let o = plan::replan(kind, known, limit, stack, plan, work);
-    if NONE <= o.width.0 {
-        return Err(Refusal::Unmeetable);
-    }
+    let o = plan::replan(kind, known, limit, stack, plan, work).ok_or(Refusal::Unmeetable)?;
     trace::trace(kind, 0, Rows(0), stack, plan, out, work);
     Ok(o)
 }

@@ -10,7 +10,7 @@ use Rattle.terms.specs.declared.Piece.{Piece}
 use Rattle.terms.specs.Pieces.{columns, stack_in}
 use Rattle.terms.specs.Answer.{Answer, refusal, result}
 use Rattle.folding.specs.declared.Outline.{Outline}
-use Rattle.model.proofs.Best.{unmeetable_height, layout_high, below_one, below_next, below_own, no_lower, own_height}
+use Rattle.model.proofs.Best.{unmeetable_height, layout_high, below_one, below_own, no_lower, own_height}
 use Rattle.layout.specs.Layout.{layout_of}
 use Rattle.layout.specs.Plan.{lists}
 use Rattle.layout.specs.declared.Entry.{Entry}
@@ -69,43 +69,34 @@ module _ (kind : Kind) (cs : List Component) (s : Stacked cs) where
     pub starts : (f : Flat) → Unfolded cs f → f.widest.0 ≤ most → Between kind cs most 1 f.height.0
     starts f u w = starts_at f.height.0 u.low (rw u.height_is (omega (arith, u.widest_is, flat_enough kind cs s)))
 
-    module _ (lo hi mid : ℕ) (l : lo ≤ mid) (u : mid < hi) (i : Between kind cs most lo hi) (o : Outline) (e : o ≡ best_at kind mid cs) where
-      -- The layout for mid is narrow enough: its own height is.
-      module _ (w : o.width.0 ≤ most) where
-        narrow : (layout_of kind mid 0 cs).width ≤ most
-        narrow = rw e at w
+    -- The layout for mid is narrow enough: its own height is.
+    module _ (lo hi mid : ℕ) (l : lo ≤ mid) (u : mid < hi) (i : Between kind cs most lo hi) (o : Outline) (e : o ≡ best_at kind mid cs) (w : o.width.0 ≤ most) where
+      narrow : (layout_of kind mid 0 cs).width ≤ most
+      narrow = rw e at w
 
-        met : (layout_of kind mid 0 cs).width < none
-        met = omega (arith, narrow)
+      met : (layout_of kind mid 0 cs).width < none
+      met = omega (arith, narrow)
 
-        pub falls : o.height.0 < hi
-        falls = rw e (omega (arith, (search kind cs s).keeps mid met))
+      pub falls : o.height.0 < hi
+      falls = rw e (omega (arith, (search kind cs s).keeps mid met))
 
-        pub lower : Between kind cs most lo o.height.0
-        lower =
-            rw e (record {
-              order = no_lower (search kind cs s) most lo i.below mid met narrow;
-              most = omega (arith, (search kind cs s).keeps mid met, i.most);
-              within = omega (arith, own_height (search kind cs s) mid met, narrow);
-              below = i.below;
-            })
+      pub lower : Between kind cs most lo o.height.0
+      lower =
+          rw e (record {
+            order = no_lower (search kind cs s) most lo i.below mid met narrow;
+            most = omega (arith, (search kind cs s).keeps mid met, i.most);
+            within = omega (arith, own_height (search kind cs s) mid met, narrow);
+            below = i.below;
+          })
 
-        -- And if it is as wide as asked, it is the least.
-        pub exact : most ≤ o.width.0 → Between kind cs most o.height.0 o.height.0
-        exact v =
-            let wide : most ≤ (layout_of kind mid 0 cs).width = rw e at v in
-            let same : (layout_of kind mid 0 cs).width ≡ most = omega (arith, narrow) in
-            rw e (record {
-              order = omega arith;
-              most = omega (arith, (search kind cs s).keeps mid met, i.most);
-              within = omega (arith, own_height (search kind cs s) mid met, narrow);
-              below = rw same at (below_own (search kind cs s) mid met);
-            })
-
-      pub raise : most < o.width.0 → Between kind cs most (mid + 1) hi
-      raise w = record { order = omega arith; most = i.most; within = i.within; below = below_next (λ limit. layout_of kind limit 0 cs) most mid (rw e at w) }
-
-    pub found : (lo hi : ℕ) → hi ≤ lo → Between kind cs most lo hi → LeastFor kind cs most lo
-    found lo hi d i =
-        let e : hi ≡ lo = omega (arith, i.order) in
-        record { most = omega (arith, i.most); within = rw e at i.within; below = i.below }
+      -- And if it is as wide as asked, it is the least.
+      pub exact : most ≤ o.width.0 → Between kind cs most o.height.0 o.height.0
+      exact v =
+          let wide : most ≤ (layout_of kind mid 0 cs).width = rw e at v in
+          let same : (layout_of kind mid 0 cs).width ≡ most = omega (arith, narrow) in
+          rw e (record {
+            order = omega arith;
+            most = omega (arith, (search kind cs s).keeps mid met, i.most);
+            within = omega (arith, own_height (search kind cs s) mid met, narrow);
+            below = rw same at (below_own (search kind cs s) mid met);
+          })

@@ -12,7 +12,6 @@ ghost use Rattle.fold.specs.Inner.{LeastFound, LeastAsks};
 
 use best::product;
 use folding::Outline;
-use group::NONE;
 use layout::Entry;
 use plan::LISTED;
 use terms::{Kind, LEAST_WORK, MOST_APART, MOST_LIMIT, Piece, Refusal, Rows, Slices};
@@ -113,16 +112,14 @@ fn rise(tried: Rows, failed: u32) -> u32 {
 }
 
 // The height to try after a plan, where `failed` in a row before it were too wide. No answer rests on it.
-fn next_guess(most: Slices, tried: Rows, o: Outline, failed: u32) -> u64
+fn next_guess(most: Slices, tried: Rows, found: Option<Outline>, failed: u32) -> u64
     requires { (0 < most.0) × (tried.0 ≤ most_limit) }
 {
-    if o.width.0 <= most.0 {
-        return lower_guess(most, o);
+    match found {
+        Some(o) if o.width.0 <= most.0 => lower_guess(most, o),
+        Some(o) => in_proportion(tried, o.width, most) + u64::from(rise(tried, failed)),
+        None => 2 * u64::from(tried.0),
     }
-    if o.width.0 < NONE {
-        return in_proportion(tried, o.width, most) + u64::from(rise(tried, failed));
-    }
-    2 * u64::from(tried.0)
 }
 
 // The next height to plan, from lo to below hi: as guessed, or the nearest. Where guesses go astray halving ends the search
@@ -161,20 +158,22 @@ fn least_height(
     while lo < hi {
         let mid = pick(lo, hi, guess, plans);
         let tried = Rows(mid);
-        let o = plan::replan(kind, known, tried, stack, plan, work);
+        let found = plan::replan(kind, known, tried, stack, plan, work);
         known = tried;
-        guess = next_guess(most, tried, o, failed);
+        guess = next_guess(most, tried, found, failed);
         plans += 1;
-        let own = o.height.0;
-        if o.width.0 <= most.0 {
-            hi = own;
-            failed = 0;
-            if o.width.0 == most.0 {
-                lo = own;
+        match found {
+            Some(o) if o.width.0 <= most.0 => {
+                hi = o.height.0;
+                failed = 0;
+                if o.width.0 == most.0 {
+                    lo = hi;
+                }
             }
-        } else {
-            lo = mid + 1;
-            failed += 1;
+            _ => {
+                lo = mid + 1;
+                failed += 1;
+            }
         }
     }
     Least {

@@ -65,27 +65,24 @@ module _ (kind : Kind) (cs : List Component) (s : Stacked cs) where
   pub own_limit : (o : Outline) → Lead kind cs o → (cells : ℕ) → next_limit o o.width.0 cells ≤ 2000000
   own_limit o l cells = limit_most o o.width.0 2000000 cells (own_asks o l).1
 
-  module _ (o : Outline) (lead : Lead kind cs o) (limit : ℕ) (low : limit ≤ 2000000) (p : Outline) (e : p ≡ best_at kind limit cs) (m : p.width.0 < none) where
-    met : (layout_of kind limit 0 cs).width < none
-    met = rw e at m
-
+  module _ (o : Outline) (lead : Lead kind cs o) (limit : ℕ) (low : limit ≤ 2000000) (p : Outline) (m : (p ≡ best_at kind limit cs) × ((layout_of kind limit 0 cs).width < none)) where
     here_wide : 0 < (layout_of kind limit 0 cs).width
-    here_wide = omega (arith, widest_wide, layout_widest (λ last. may_stand kind) limit 0 cs met)
+    here_wide = omega (arith, widest_wide, layout_widest (λ last. may_stand kind) limit 0 cs m.1)
 
     here_low : (layout_of kind limit 0 cs).height ≤ 2000000
-    here_low = omega (arith, (search kind cs s).keeps limit met)
+    here_low = omega (arith, (search kind cs s).keeps limit m.1)
 
     here_leads : area_of (smaller_of (best_at kind limit cs) o) ≤ widest cs * 2000000 → Lead kind cs (smaller_of (best_at kind limit cs) o)
     here_leads n = record {
       wide = smaller_either (λ x. 0 < x.width.0) (best_at kind limit cs) o here_wide lead.wide;
-      slim = smaller_either (λ x. x.width.0 < none) (best_at kind limit cs) o met lead.slim;
+      slim = smaller_either (λ x. x.width.0 < none) (best_at kind limit cs) o m.1 lead.slim;
       low = smaller_either (λ x. x.height.0 ≤ 2000000) (best_at kind limit cs) o here_low lead.low;
-      reached = smaller_either (λ x. (layout_of kind x.height.0 0 cs).width ≤ x.width.0) (best_at kind limit cs) o (own_height (search kind cs s) limit met) lead.reached;
+      reached = smaller_either (λ x. (layout_of kind x.height.0 0 cs).width ≤ x.width.0) (best_at kind limit cs) o (own_height (search kind cs s) limit m.1) lead.reached;
       small = n;
     }
 
     pub smaller_leads : Lead kind cs (smaller_of p o)
-    smaller_leads = rw e (here_leads (omega (arith, no_larger (smaller_of (best_at kind limit cs) o) o (smaller_second (best_at kind limit cs) o), lead.small)))
+    smaller_leads = rw m.0 (here_leads (omega (arith, no_larger (smaller_of (best_at kind limit cs) o) o (smaller_second (best_at kind limit cs) o), lead.small)))
 
   module _ (f : Flat) (u : Unfolded cs f) where
     cells_kept : (ps : List Placement) → Legal kind cs ps → f.cells ≤ area_of (outline_of cs ps)
@@ -107,29 +104,26 @@ module _ (kind : Kind) (cs : List Component) (s : Stacked cs) where
     pub ends_low : (o : Outline) (limit : ℕ) → Passing kind cs o limit → limit < f.tallest.0 → SmallestFor kind cs o.height.0
     ends_low o limit i h = ended o limit i (λ ps l k. absurd (omega (arith, u.tallest_is, tallest_most cs ps l.whole)))
 
-    module _ (o : Outline) (limit : ℕ) (i : Passing kind cs o limit) (p : Outline) (e : p ≡ best_at kind limit cs) where
-      pub ends_unmet : none ≤ p.width.0 → SmallestFor kind cs o.height.0
-      ends_unmet h = ended o limit i (unmeetable_height (search kind cs s) limit (rw e at h))
+    module _ (o : Outline) (limit : ℕ) (i : Passing kind cs o limit) where
+      pub ends_unmet : none ≤ (layout_of kind limit 0 cs).width → SmallestFor kind cs o.height.0
+      ends_unmet h = ended o limit i (unmeetable_height (search kind cs s) limit h)
 
-      module _ (m : p.width.0 < none) where
-        kept : (layout_of kind limit 0 cs).width < none
-        kept = met o i.lead limit i.most p e m
-
+      module _ (p : Outline) (m : (p ≡ best_at kind limit cs) × ((layout_of kind limit 0 cs).width < none)) where
         pub fits : area_of (smaller_of p o) ≤ (p.width.0 + 1) * 2000000
         fits =
-            rw e (let w : (layout_of kind limit 0 cs).width ≤ (layout_of kind limit 0 cs).width + 1 = omega arith in
-            omega (arith, next_small (search kind cs s) f.cells cells_kept o limit i.leads kept, mul-le-mul w (here_low o i.lead limit i.most p e m)))
+            rw m.0 (let w : (layout_of kind limit 0 cs).width ≤ (layout_of kind limit 0 cs).width + 1 = omega arith in
+            omega (arith, next_small (search kind cs s) f.cells cells_kept o limit i.leads m.1, mul-le-mul w (here_low o i.lead limit i.most p m)))
 
         pub limit_less : next_limit (smaller_of p o) (p.width.0 + 1) f.cells < limit
-        limit_less = rw e (falls (search kind cs s) f.cells cells_kept o limit i.leads kept)
+        limit_less = rw m.0 (falls (search kind cs s) f.cells cells_kept o limit i.leads m.1)
 
         pub goes_on : Passing kind cs (smaller_of p o) (next_limit (smaller_of p o) (p.width.0 + 1) f.cells)
         goes_on =
-            let l = smaller_leads o i.lead limit i.most p e m in
-            rw e (record {
-              lead = rw e at l;
-              leads = leads_on (search kind cs s) f.cells cells_kept o limit i.leads kept (here_wide o i.lead limit i.most p e m);
-              most = omega (arith, falls (search kind cs s) f.cells cells_kept o limit i.leads kept, i.most);
+            let l = smaller_leads o i.lead limit i.most p m in
+            rw m.0 (record {
+              lead = rw m.0 at l;
+              leads = leads_on (search kind cs s) f.cells cells_kept o limit i.leads m.1 (here_wide o i.lead limit i.most p m);
+              most = omega (arith, falls (search kind cs s) f.cells cells_kept o limit i.leads m.1, i.most);
             })
 
   -- The best folding within that height has the smallest area.

@@ -16,7 +16,6 @@ ghost use Rattle.fold_area.specs.Inner.{Lead, AreaFound};
 
 use best::{Flat, product};
 use folding::Outline;
-use group::NONE;
 use layout::Entry;
 use plan::LISTED;
 use terms::{Kind, MOST_APART, Piece, Refusal, Rows, Slices};
@@ -86,10 +85,9 @@ fn first_lead(
     let mut limit = next_limit(lead, lead.width, flat.cells).0 / LOW;
     while flat.tallest.0 < limit {
         limit = flat.tallest.0.max(limit / 2);
-        let o = plan::replan(kind, known, Rows(limit), stack, plan, work);
-        if NONE <= o.width.0 {
+        let Some(o) = plan::replan(kind, known, Rows(limit), stack, plan, work) else {
             return lead;
-        }
+        };
         lead = smaller(o, lead);
         known = Rows(limit);
     }
@@ -115,15 +113,14 @@ fn pass(
     let mut known = Rows(0);
     let mut limit = next_limit(lead, flat.widest, flat.cells);
     while flat.tallest.0 <= limit.0 {
-        let o = plan::replan(kind, known, limit, stack, plan, work);
-        known = limit;
-        if NONE <= o.width.0 {
+        let Some(o) = plan::replan(kind, known, limit, stack, plan, work) else {
             return Found {
                 height: lead.height,
-                known,
+                known: limit,
             };
-        }
+        };
         lead = smaller(o, lead);
+        known = limit;
         limit = next_limit(lead, Slices(o.width.0 + 1), flat.cells);
     }
     Found {

@@ -71,42 +71,38 @@ module _ {kind : Kind} {cs : List Component} (s : Stacked cs) {old new : List �
   pub all_counted : limit ≤ 0 → Gathered kind cs old new n
   all_counted h = gathered (none_to kind cs limit h)
 
-  module _ {o : Outline} (e : o ≡ best_at kind limit cs) where
-    pub no_more : none ≤ o.width.0 → Gathered kind cs old new n
-    no_more h = gathered (outlines_done (search kind cs s) limit (rw e at h))
+  pub no_more : none ≤ (layout_of kind limit 0 cs).width → Gathered kind cs old new n
+  no_more h = gathered (outlines_done (search kind cs s) limit h)
 
-    module _ (h : o.width.0 < none) where
-      met : (layout_of kind limit 0 cs).width < none
-      met = rw e at h
+  module _ {o : Outline} (m : (o ≡ best_at kind limit cs) × ((layout_of kind limit 0 cs).width < none)) where
+    height_is : o.height.0 ≡ (layout_of kind limit 0 cs).height
+    height_is = ap (λ (p : Outline). p.height.0) m.0
 
-      height_is : o.height.0 ≡ (layout_of kind limit 0 cs).height
-      height_is = ap (λ (p : Outline). p.height.0) e
+    height_falls : o.height.0 ≤ limit
+    height_falls = omega (arith, height_is, (search kind cs s).keeps limit m.1)
 
-      height_falls : o.height.0 ≤ limit
-      height_falls = omega (arith, height_is, (search kind cs s).keeps limit met)
+    next : outlines_to kind cs limit ≡ o ∷ outlines_to kind cs (o.height.0 - 1)
+    next = rw m.0 (outlines_next (search kind cs s) limit m.1)
 
-      next : outlines_to kind cs limit ≡ o ∷ outlines_to kind cs (o.height.0 - 1)
-      next = rw e (outlines_next (search kind cs s) limit met)
+    kept : (put : List ℕ) → PairKept n o new put → length put ≡ length new → GatheredTo kind cs old put (o.height.0 - 1) (n + 1)
+    unfolding pairs_of
+    kept put k l = record {
+      most = omega (arith, height_falls, g.most);
+      rest = omega (arith, g.rest, ap length next);
+      front = λ h.
+          rw (k.put (omega arith))
+          (append_assoc (take (2 * n) new) (o.width.0 ∷ o.height.0 ∷ []) (pairs_of (outlines_to kind cs (o.height.0 - 1)))
+          ∙ sym (ap (λ (os : List Outline). take (2 * n) new ++ pairs_of os) next) ∙ g.front (omega arith));
+      beyond = k.beyond ∙ drop_on old new n g.beyond;
+    }
 
-      kept : (put : List ℕ) → PairKept n o new put → length put ≡ length new → GatheredTo kind cs old put (o.height.0 - 1) (n + 1)
-      unfolding pairs_of
-      kept put k l = record {
-        most = omega (arith, height_falls, g.most);
-        rest = omega (arith, g.rest, ap length next);
-        front = λ h.
-            rw (k.put (omega arith))
-            (append_assoc (take (2 * n) new) (o.width.0 ∷ o.height.0 ∷ []) (pairs_of (outlines_to kind cs (o.height.0 - 1)))
-            ∙ sym (ap (λ (os : List Outline). take (2 * n) new ++ pairs_of os) next) ∙ g.front (omega arith));
-        beyond = k.beyond ∙ drop_on old new n g.beyond;
-      }
-
-      pub counted : Counted kind cs old new limit n o
-      counted = record {
-        high = omega (arith, height_is, layout_high (search kind cs s) limit met);
-        falls = height_falls;
-        few = omega (arith, g.rest, ap length next, outlines-length (λ limit. layout_of kind limit 0 cs) 2000000 2000000);
-        more = λ {put} k l. kept put k l;
-      }
+    pub counted : Counted kind cs old new limit n o
+    counted = record {
+      high = omega (arith, height_is, layout_high (search kind cs s) limit m.1);
+      falls = height_falls;
+      few = omega (arith, g.rest, ap length next, outlines-length (λ limit. layout_of kind limit 0 cs) 2000000 2000000);
+      more = λ {put} k l. kept put k l;
+    }
 
 module _ (kind : Kind) (cs : List Component) (s : Stacked cs) where
   -- The two ways in which the table ends.

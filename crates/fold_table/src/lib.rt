@@ -11,7 +11,6 @@ ghost use Rattle.fold_table.specs.Calls.{Tabled, TableOf};
 ghost use Rattle.fold_table.specs.Inner.{PairKept, Gathered};
 
 use folding::Outline;
-use group::NONE;
 use layout::Entry;
 use plan::LISTED;
 use terms::{Kind, LEAST_WORK, MOST_APART, MOST_LIMIT, Piece, Refusal, Rows};
@@ -42,10 +41,9 @@ fn gather(
     let mut limit = MOST_LIMIT;
     let mut n = 0;
     while 0 < limit {
-        let o = plan::replan(kind, known, Rows(limit), stack, plan, work);
-        if NONE <= o.width.0 {
+        let Some(o) = plan::replan(kind, known, Rows(limit), stack, plan, work) else {
             return n;
-        }
+        };
         keep_pair(pairs, n, o);
         known = Rows(limit);
         limit = o.height.0 - 1;

@@ -11,6 +11,7 @@ ghost use Rattle.group_memory.specs.Inner.{Small, Noted, Recalled, SearchAsks};
 
 use folding::Outline;
 use group::NONE;
+use group_search::Sought;
 use numbers::CELLS;
 use terms::{Piece, Rows, Slices};
 
@@ -79,24 +80,21 @@ fn recall(known: Outline, cap: Slices) -> Outline
 
 // A search from `low` on, whose result is remembered.
 fn search(
-    g0: Rows,
-    flat: Rows,
+    sought: Sought,
     stack: &[Piece],
     work: &mut [u32],
     at: usize,
-    limit: Rows,
-    widest: Slices,
     low: Slices,
     cap: Slices,
 ) -> Outline
-    requires { columns stack.now (SearchAsks g0.0 flat.0) work.old at
-        limit.0 widest.0 low.0 cap.0 }
-    ensures narrow { columns stack.now (Narrow g0.0) limit.0 cap.0
+    requires { columns stack.now (SearchAsks sought.before.0 sought.flat.0) work.old at
+        sought.limit.0 sought.widest.0 low.0 cap.0 }
+    ensures narrow { columns stack.now (Narrow sought.before.0) sought.limit.0 cap.0
         result.width.0 result.height.0 }
-    ensures remembered { columns stack.now (Remembered g0.0)
-        work.old work.new at limit.0 widest.0 }
+    ensures remembered { columns stack.now (Remembered sought.before.0)
+        work.old work.new at sought.limit.0 sought.widest.0 }
 {
-    let fit = group_search::narrowest(g0, flat, stack, &mut work[..CELLS], limit, widest, low, cap);
+    let fit = group_search::narrowest(sought, stack, &mut work[..CELLS], low, cap);
     let found = Outline {
         width: fit.width,
         height: fit.height,
@@ -108,28 +106,26 @@ fn search(
 // The least width up to the cap at which the group is within the limit, as `group_search::narrowest` finds it, with the help
 // of the group's word at `at`, which must hold for this limit. The content of the table's buffer is free afterwards.
 pub fn narrowest(
-    g0: Rows,
-    flat: Rows,
+    sought: Sought,
     stack: &[Piece],
     work: &mut [u32],
     at: usize,
-    limit: Rows,
-    widest: Slices,
     cap: Slices,
 ) -> Outline
-    requires { columns stack.now (MemoryAsks g0.0 flat.0) work.old at limit.0 widest.0 cap.0 }
-    ensures narrow { columns stack.now (Narrow g0.0) limit.0 cap.0
+    requires { columns stack.now (MemoryAsks sought.before.0 sought.flat.0) work.old at
+        sought.limit.0 sought.widest.0 cap.0 }
+    ensures narrow { columns stack.now (Narrow sought.before.0) sought.limit.0 cap.0
         result.width.0 result.height.0 }
-    ensures remembered { columns stack.now (Remembered g0.0)
-        work.old work.new at limit.0 widest.0 }
+    ensures remembered { columns stack.now (Remembered sought.before.0)
+        work.old work.new at sought.limit.0 sought.widest.0 }
 {
     let known = known_in(work[at]);
-    if known.height.0 <= limit.0.min(UNKNOWN - 1) {
+    if known.height.0 <= sought.limit.0.min(UNKNOWN - 1) {
         return recall(known, cap);
     }
-    let low = Slices(known.width.0.max(widest.0));
+    let low = Slices(known.width.0.max(sought.widest.0));
     if cap.0 < low.0 {
         return MISSED;
     }
-    search(g0, flat, stack, work, at, limit, widest, low, cap)
+    search(sought, stack, work, at, low, cap)
 }

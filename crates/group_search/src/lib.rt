@@ -17,6 +17,15 @@ use group_table::beside;
 use numbers::{STRIDE, cell, gap, height, width};
 use terms::{Piece, Rows, Slices};
 
+// What is asked of a group: the gap before it, its height without a fold, the limit for its height, and its widest component.
+#[derive(Clone, Copy, Debug, PartialEq, Eq)]
+pub struct Sought {
+    pub before: Rows,
+    pub flat: Rows,
+    pub limit: Rows,
+    pub widest: Slices,
+}
+
 // The width of a group, its height there, and a width below which every cap is too narrow.
 #[derive(Clone, Copy, Debug, PartialEq, Eq)]
 pub struct Fit {
@@ -193,15 +202,15 @@ fn borders(stack: &[Piece], e: &mut [u32])
 }
 
 // The least height if it is within the limit, and else one more than the limit.
-fn search(g0: Rows, flat: Rows, stack: &[Piece], e: &mut [u32], limit: Rows, cap: Slices) -> Run
-    requires { columns stack.now (SearchAsks g0.0 flat.0) e.old limit.0 cap.0 }
-    ensures searched { columns stack.now (Searched g0.0) limit.0 cap.0 result }
+fn search(sought: Sought, stack: &[Piece], e: &mut [u32], cap: Slices) -> Run
+    requires { columns stack.now (SearchAsks sought.before.0 sought.flat.0) e.old sought.limit.0 cap.0 }
+    ensures searched { columns stack.now (Searched sought.before.0) sought.limit.0 cap.0 result }
     ensures bordered { Bordered (heights_in stack.now) e.new }
 {
-    let both = g0.0.max(gap(stack, stack.len() - 1));
+    let both = sought.before.0.max(gap(stack, stack.len() - 1));
     clear(stack, e, both);
     let start = Run {
-        height: Rows((limit.0 + 1).min(flat.0)),
+        height: Rows((sought.limit.0 + 1).min(sought.flat.0)),
         fit: Slices(0),
         clash: Slices(NONE),
     };
@@ -209,36 +218,32 @@ fn search(g0: Rows, flat: Rows, stack: &[Piece], e: &mut [u32], limit: Rows, cap
 }
 
 // The cap to start with: a group that keeps the limit without a fold keeps it at every cap.
-fn first_cap(flat: Rows, limit: Rows, low: Slices, cap: Slices) -> Slices
+fn first_cap(sought: Sought, low: Slices, cap: Slices) -> Slices
     requires { low.0 ≤ cap.0 }
-    ensures { FirstCap flat.0 limit.0 low.0 cap.0 result.0 }
+    ensures { FirstCap sought.flat.0 sought.limit.0 low.0 cap.0 result.0 }
 {
-    if flat.0 <= limit.0 { low } else { cap }
+    if sought.flat.0 <= sought.limit.0 {
+        low
+    } else {
+        cap
+    }
 }
 
 // The least width from `low` to the cap at which the group is within the limit, by halving, where it is known that no cap
-// below `low` will do. Of the caps only `low` and sums of two widths can be the least. `flat` is the height without a fold.
-// The content of the table's buffer is free afterwards.
-pub fn narrowest(
-    g0: Rows,
-    flat: Rows,
-    stack: &[Piece],
-    e: &mut [u32],
-    limit: Rows,
-    widest: Slices,
-    low: Slices,
-    cap: Slices,
-) -> Fit
-    requires { columns stack.now (LowAsks g0.0 flat.0) e.old limit.0 widest.0 low.0 cap.0 }
-    ensures narrow { columns stack.now (Narrow g0.0) limit.0 cap.0
+// below `low` will do. Of the caps only `low` and sums of two widths can be the least. The content of the table's buffer is
+// free afterwards.
+pub fn narrowest(sought: Sought, stack: &[Piece], e: &mut [u32], low: Slices, cap: Slices) -> Fit
+    requires { columns stack.now (LowAsks sought.before.0 sought.flat.0) e.old
+        sought.limit.0 sought.widest.0 low.0 cap.0 }
+    ensures narrow { columns stack.now (Narrow sought.before.0) sought.limit.0 cap.0
         result.width.0 result.height.0 }
-    ensures over { columns stack.now (Over g0.0) limit.0 widest.0
+    ensures over { columns stack.now (Over sought.before.0) sought.limit.0 sought.widest.0
         result.least.0 }
 {
-    let top = first_cap(flat, limit, low, cap);
+    let top = first_cap(sought, low, cap);
     borders(stack, e);
-    let Run { height, fit, clash } = search(g0, flat, stack, e, limit, top);
-    if limit.0 < height.0 {
+    let Run { height, fit, clash } = search(sought, stack, e, top);
+    if sought.limit.0 < height.0 {
         return Fit {
             width: Slices(NONE),
             height: Rows(NONE),
@@ -250,8 +255,8 @@ pub fn narrowest(
     let mut hi = fit.0.max(lo);
     while lo < hi {
         let mid = lo.midpoint(hi);
-        let run = search(g0, flat, stack, e, limit, Slices(mid));
-        if run.height.0 <= limit.0 {
+        let run = search(sought, stack, e, Slices(mid));
+        if run.height.0 <= sought.limit.0 {
             hi = run.fit.0.max(lo);
             v = run.height;
         } else {

@@ -44,5 +44,5 @@ plan_ends = map (λ b. b.end)
 abbrev pub lists {ℓ} : {A : Type ℓ} → List Entry → (List ℕ → List ℕ → List ℕ → A) → A
 lists plan f = f (plan_widths plan) (plan_heights plan) (plan_ends plan)
 
-abbrev pub outlines {ℓ} : {A : Type ℓ} → List Entry → (List ℕ → List ℕ → A) → A
-outlines plan f = f (plan_widths plan) (plan_heights plan)
+abbrev pub extents {ℓ} : {A : Type ℓ} → List Entry → (List ℕ → List ℕ → A) → A
+extents plan f = f (plan_widths plan) (plan_heights plan)

@@ -17,7 +17,7 @@ use Rattle.terms.proofs.Pieces.{heights_length}
 use Rattle.group.specs.Rows.{gap, tall}
 use Rattle.group.specs.Group.{none, widest}
 use Rattle.layout.specs.Layout.{Layout, unmet, groups, candidate, choice, layouts, layout_of}
-use Rattle.layout.specs.Plan.{outlines}
+use Rattle.layout.specs.Plan.{extents}
 use Rattle.layout.specs.declared.Entry.{Entry}
 use Rattle.plan.specs.declared.Sizes.{Sizes}
 use Rattle.plan.specs.Asks.{layout_in, GroupAsks, tried, most_rows, SizesOf, FirstAsks, Under, best_to}
@@ -51,7 +51,7 @@ pub record Scanned (kind : Kind) (limit g0 bound : ℕ) (s : List Piece) (best :
 abbrev pub start : ℕ → Entry
 start bound = record { width = record { 0 = bound }; height = record { 0 = none }; end = 0 }
 
-module _ {kind : Kind} {limit g0 : ℕ} (s : List Piece) (p : List Entry) (a : outlines p (columns s (FirstAsks kind limit g0))) where
+module _ {kind : Kind} {limit g0 : ℕ} (s : List Piece) (p : List Entry) (a : extents p (columns s (FirstAsks kind limit g0))) where
   abbrev cs : List Component
   cs = stack_in s
 
@@ -135,12 +135,12 @@ module _ {kind : Kind} {limit g0 : ℕ} (s : List Piece) (p : List Entry) (a : o
         }
 
 -- A layout whose first group ends with the component at `last` bounds the best one.
-module _ {kind : Kind} {limit g0 : ℕ} (s : List Piece) (p : List Entry) (a : outlines p (columns s (FirstAsks kind limit g0))) (last : ℕ) (within : last < length s) {z : Sizes}
+module _ {kind : Kind} {limit g0 : ℕ} (s : List Piece) (p : List Entry) (a : extents p (columns s (FirstAsks kind limit g0))) (last : ℕ) (within : last < length s) {z : Sizes}
     (sizes : SizesOf (heights_in s) (widths_in s) (last + 1) z) where
   pub bound_asks : columns (take (last + 1) s) (GroupAsks kind limit g0 z) (start none) (entry_at p last)
   bound_asks = group_asks s p a last within (sizes.tall_is (seams_in s)) (omega (arith, sizes.low)) (sizes.widest_is (seams_in s)) (inr (refl, omega arith))
 
-module _ {kind : Kind} {limit g0 : ℕ} (s : List Piece) (p : List Entry) (a : outlines p (columns s (FirstAsks kind limit g0))) (last : ℕ) (within : last < length s)
+module _ {kind : Kind} {limit g0 : ℕ} (s : List Piece) (p : List Entry) (a : extents p (columns s (FirstAsks kind limit g0))) (last : ℕ) (within : last < length s)
     (b : Entry) (e : layout_in b ≡ columns (take (last + 1) s) (tried kind limit g0) (start none) (entry_at p last)) where
   pub bound_under : (r : ℕ) → r ≡ min none (b.width.0 + 1) → Under kind limit g0 (stack_in s) r
   bound_under r f = (omega arith, λ h. omega (arith, no_wider narrow))

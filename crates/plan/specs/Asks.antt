@@ -1,6 +1,6 @@
 -- What the functions of this crate ask and promise each other. `PlanAsks`, `PlanDone`, `Plannable` and `best_at` belong to
 -- what other crates call.
-use Rattle.std.specs.Prelude.{ℕ, zero, suc, ◌+◌, ◌*◌, ◌≤◌, ◌<◌, ◌≡◌, ◌⊎◌, List, true, length, get_or, take, drop}
+use Rattle.std.specs.Prelude.{ℕ, zero, suc, ◌+◌, ◌*◌, ◌≤◌, ◌<◌, ◌≡◌, ◌⊎◌, List, Option, Some, None, true, cond, length, get_or, take, drop, ltb}
 use Rattle.numbers.specs.Table.{cells}
 use Rattle.terms.specs.Numbers.{most_size, most_apart, most_limit, least_work}
 use Rattle.terms.specs.declared.Component.{Component}
@@ -124,7 +124,11 @@ pub record Plannable (kind : Kind) (hs ws gs work : List ℕ) : Type 0 where
 abbrev pub best_at : Kind → ℕ → List Component → Outline
 best_at kind limit cs = outline (layout_of kind limit 0 cs).width (layout_of kind limit 0 cs).height
 
+-- None, where no layout keeps the limit.
+abbrev pub met_at : Kind → ℕ → List Component → Option Outline
+met_at kind limit cs = cond (ltb (layout_of kind limit 0 cs).width none) (Some (best_at kind limit cs)) None
+
 -- The plan holds the best layouts of the stack and of what is left of it, and the outline is that of the first.
-pub record PlanDone (kind : Kind) (limit : ℕ) (cs : List Component) (widths heights ends : List ℕ) (o : Outline) : Type 0 where
+pub record PlanDone (kind : Kind) (limit : ℕ) (cs : List Component) (widths heights ends : List ℕ) (o : Option Outline) : Type 0 where
   pub planned : Planned kind limit 0 cs widths heights ends
-  pub outlined : o ≡ best_at kind limit cs
+  pub outlined : o ≡ met_at kind limit cs

@@ -8,7 +8,7 @@ ghost use Rattle.terms.specs.declared.Kind.TheVariants.{Apart, Nested};
 ghost use Rattle.terms.specs.Pieces.{heights_in, widths_in, seams_in, stack_in, columns, sizes};
 ghost use Rattle.group.specs.Group.{none, unbarred};
 ghost use Rattle.layout.specs.Layout.{better, choice, unmet, layouts, layout_of};
-ghost use Rattle.layout.specs.Plan.{lists, outlines};
+ghost use Rattle.layout.specs.Plan.{lists, extents};
 ghost use Rattle.plan.specs.Asks.{layout_in, GroupAsks, tried, most_rows, FirstAsks, Under, SizesAsk, SizesOf};
 ghost use Rattle.plan.specs.Asks.{FromAsks, PlanAsks, PlanDone, gap_before, plan_room};
 ghost use Rattle.plan.specs.Memory.{WordAsks, WordDone, RowAsks, RowDone, Forgotten, RowRoom, Readied};
@@ -17,6 +17,7 @@ ghost use Rattle.plan.specs.Memory.{EntryAsks, EntryDone, Known, Memory, most_ro
 use folding::Outline;
 use group::NONE;
 use group_memory::NOTHING;
+use group_search::Sought;
 use layout::Entry;
 use numbers::{CELLS, barred, gap, height, width};
 use terms::{Kind, MOST_APART, MOST_NESTED, Piece, Rows, Slices};
@@ -160,16 +161,13 @@ fn try_folds(
     let cap = Slices((2 * sizes.widest.0).min(bound.0 - 1 - rest.width.0));
     let k = stack.len();
     let flat = Rows(sizes.tall.0 + ask.before.0 + gap(stack, k - 1));
-    let n = group_memory::narrowest(
-        ask.before,
+    let sought = Sought {
+        before: ask.before,
         flat,
-        stack,
-        work,
-        at,
-        ask.limit,
-        sizes.widest,
-        cap,
-    );
+        limit: ask.limit,
+        widest: sizes.widest,
+    };
+    let n = group_memory::narrowest(sought, stack, work, at, cap);
     if NONE <= n.width.0 {
         return best;
     }
@@ -218,7 +216,7 @@ fn bound_by(
     row: usize,
     work: &mut [u32],
 ) -> Slices
-    requires first_asks { outlines later.now (columns stack.now (FirstAsks Nested ask.limit.0 ask.before.0)) }
+    requires first_asks { extents later.now (columns stack.now (FirstAsks Nested ask.limit.0 ask.before.0)) }
     requires row_asks { columns stack.now (RowAsks Nested ask.limit.0 ask.before.0) work.old row }
     requires row_le_most_row { row ≤ most_row }
     ensures under { Under Nested ask.limit.0 ask.before.0 (stack_in stack.now) result.0 }
@@ -244,7 +242,7 @@ fn likely_bound(
     row: usize,
     work: &mut [u32],
 ) -> Slices
-    requires first_asks { outlines later.now (columns stack.now (FirstAsks ask.kind ask.limit.0 ask.before.0)) }
+    requires first_asks { extents later.now (columns stack.now (FirstAsks ask.kind ask.limit.0 ask.before.0)) }
     requires row_asks { columns stack.now (RowAsks ask.kind ask.limit.0 ask.before.0) work.old row }
     requires row_le_most_row { row ≤ most_row }
     ensures under { Under ask.kind ask.limit.0 ask.before.0 (stack_in stack.now) result.0 }
@@ -266,7 +264,7 @@ fn first_group(
     row: usize,
     work: &mut [u32],
 ) -> Entry
-    requires first_asks { outlines later.now (columns stack.now (FirstAsks ask.kind ask.limit.0 ask.before.0)) }
+    requires first_asks { extents later.now (columns stack.now (FirstAsks ask.kind ask.limit.0 ask.before.0)) }
     requires row_asks { columns stack.now (RowAsks ask.kind ask.limit.0 ask.before.0) work.old row }
     requires under { Under ask.kind ask.limit.0 ask.before.0 (stack_in stack.now) bound.0 }
     requires row_le_most_row { row ≤ most_row }
@@ -301,7 +299,7 @@ fn likely_first(
     row: usize,
     work: &mut [u32],
 ) -> Entry
-    requires first_asks { outlines later.now (columns stack.now (FirstAsks ask.kind ask.limit.0 ask.before.0)) }
+    requires first_asks { extents later.now (columns stack.now (FirstAsks ask.kind ask.limit.0 ask.before.0)) }
     requires row_asks { columns stack.now (RowAsks ask.kind ask.limit.0 ask.before.0) work.old row }
     requires row_le_most_row { row ≤ most_row }
     ensures result_value { layout_in result ≡ layout_of ask.kind ask.limit.0 ask.before.0 (stack_in stack.now) }
@@ -332,7 +330,7 @@ fn best_from(
     row: usize,
     work: &mut [u32],
 ) -> Entry
-    requires from_asks { outlines plan.now (columns stack.now (FromAsks kind limit.0 i)) }
+    requires from_asks { extents plan.now (columns stack.now (FromAsks kind limit.0 i)) }
     requires row_asks { columns (drop i stack.now) (RowAsks kind limit.0 (gap_before (seams_in stack.now) i)) work.old row }
     requires row_le_most_row { row ≤ most_row }
     ensures result_value { layout_in result ≡ get_or (layouts kind limit.0 0 (stack_in stack.now)) i unmet }
@@ -406,8 +404,8 @@ fn plan_at(
 }
 
 // For a height: the best layouts of a stack and of what is left of it behind 1, 2, 3 and so on components, and the outline
-// of the whole. A width of NONE means that there is none. Where the entries are a plan for the limit `known`, the work buffer
-// holds what is remembered of its groups: if that limit is higher, what of it keeps the limit is not searched again.
+// of the whole, if a layout keeps the height. Where the entries are a plan for the limit `known`, the work buffer holds what
+// is remembered of its groups: if that limit is higher, what of it keeps the limit is not searched again.
 pub fn replan(
     kind: Kind,
     known: Rows,
@@ -415,7 +413,7 @@ pub fn replan(
     stack: &[Piece],
     plan: &mut [Entry],
     work: &mut [u32],
-) -> Outline
+) -> Option<Outline>
     requires plan_asks { lists plan.old (columns stack.now (PlanAsks kind limit.0)) work.old }
     requires known { lists plan.old (columns stack.now (Known kind known.0 limit.0)) work.old }
     ensures plan_done { lists plan.new (PlanDone kind limit.0 (stack_in stack.now)) result }
@@ -432,8 +430,12 @@ pub fn replan(
         plan_at(kind, known, limit, i, row, stack, plan, work);
         row += n - i;
     }
-    Outline {
-        width: plan[0].width,
-        height: plan[0].height,
+    let best = plan[0];
+    if NONE <= best.width.0 {
+        return None;
     }
+    Some(Outline {
+        width: best.width,
+        height: best.height,
+    })
 }

@@ -1,4 +1,5 @@
 use native.Mathlib.Omega.{arith}
+use Rattle.plan.proofs.Outlines.{outline_met}
 use Rattle.fold.proofs.Held.{stacked_asks}
 use Rattle.fold_area.proofs.Passing.{flat_leads, own_asks, own_limit, smaller_leads}
 use Rattle.fold_area.proofs.first_lead.Goals as goal
@@ -21,7 +22,7 @@ pub loop-limit-preserved : goal.loop-limit-preserved
 loop-limit-preserved c =
     record {
       lead = rw c.smaller-lead.ensures (smaller_leads _ _ (stacked_asks c.requires.plan_asks) _ c.loop-limit.invariant.lead _
-          (omega arith) _ c.replan-o.ensures.plan_done.outlined c.if-o-ge-NONE.false);
-      known = λ h. (c.replan-o.ensures.plan_done.planned, c.replan-o.ensures.memory);
+          (omega arith) _ (outline_met c.replan.ensures.plan_done c.in-Some.is));
+      known = λ h. (c.replan.ensures.plan_done.planned, c.replan.ensures.memory);
       low = omega arith;
     }

@@ -5,13 +5,13 @@ use Rattle.group_search.proofs.narrowest.Goals as goal
 pub search-requires : goal.search-requires
 search-requires c = asks_at c.requires _ _ c.borders.ensures c.first_cap-top.ensures.to
 
-pub returns-then-limit-height-clause-narrow : goal.returns-then-limit-height-clause-narrow
-returns-then-limit-height-clause-narrow c =
-    (not_met c.requires c.first_cap-top.ensures c.search.ensures.searched _ c.if-limit-height.true).0
+pub returns-then-sought-height-clause-narrow : goal.returns-then-sought-height-clause-narrow
+returns-then-sought-height-clause-narrow c =
+    (not_met c.requires c.first_cap-top.ensures c.search.ensures.searched _ c.if-sought-height.true).0
 
-pub returns-then-limit-height-clause-over : goal.returns-then-limit-height-clause-over
-returns-then-limit-height-clause-over c =
-    (not_met c.requires c.first_cap-top.ensures c.search.ensures.searched 0 c.if-limit-height.true).1
+pub returns-then-sought-height-clause-over : goal.returns-then-sought-height-clause-over
+returns-then-sought-height-clause-over c =
+    (not_met c.requires c.first_cap-top.ensures c.search.ensures.searched 0 c.if-sought-height.true).1
 
 pub search-run-requires : goal.search-run-requires
 search-run-requires c =
@@ -21,7 +21,7 @@ search-run-requires c =
 pub loop-lo-preserved : goal.loop-lo-preserved
 loop-lo-preserved c =
     missed c.requires c.loop-lo.invariant c.search-run.ensures.searched c.search-run.ensures.bordered
-    (omega (arith, c.loop-lo-test.true, c.midpoint-mid.ensures)) c.if-run-limit.false c.min-lo.ensures
+    (omega (arith, c.loop-lo-test.true, c.midpoint-mid.ensures)) c.if-run-sought.false c.min-lo.ensures
 
 pub returns-clause-narrow : goal.returns-clause-narrow
 returns-clause-narrow c = halved c.requires c.loop-lo.invariant c.loop-lo-test.false
