@@ -2,52 +2,33 @@
 use Prim.Native.Nat.{ℕ, zero, suc, ◌+◌, ◌-◌, ◌*◌, ◌≤◌, ◌<◌, max}
 use mathlib.Core.Path.{◌≡◌, refl, sym, ◌∙◌}
 use mathlib.Core.List.{List, [], ◌∷◌}
-use mathlib.Core.Bool.{Bool, true, false}
+use mathlib.Core.Bool.{false}
 use native.Mathlib.Nat.{mul-le-mul}
 use native.Mathlib.Numerals.{add-one}
 use native.Mathlib.Omega.{arith}
 use lib.ListN.{length, get_or, get_or-map, take}
 use lib.Seq.{take_all}
 use Rattle.terms.specs.declared.Component.{Component}
-use Rattle.terms.specs.declared.Kind.{Kind}
 use Rattle.terms.specs.declared.Kind.TheVariants.{Apart}
 use Rattle.terms.specs.declared.Piece.{Piece}
 use Rattle.terms.specs.Component.{cell_sum, tallest}
-use Rattle.terms.specs.Pieces.{mark_of, heights_in, widths_in, seams_in, columns, sizes, stack_in}
+use Rattle.terms.specs.Pieces.{heights_in, widths_in, seams_in, columns, stack_in}
 use Rattle.terms.specs.Seams.{gap_at, component_in}
-use Rattle.terms.proofs.Answers.{most_256}
-use Rattle.terms.proofs.Pieces.{heights_length, widths_length}
+use Rattle.terms.proofs.Pieces.{heights_length}
 use Rattle.group.proofs.Gaps.{gap_behind_all}
 use Rattle.layout.specs.Plan.{StackLists}
 use Rattle.layout.proofs.Columns.{components_length}
 use Rattle.plan.proofs.Columns.{component_at_lem}
 use Rattle.plan.specs.declared.Sizes.{Sizes}
-use Rattle.plan.specs.Asks.{SizesAsk, SizesOf}
+use Rattle.plan.specs.Asks.{SizesOf}
 use Rattle.best.specs.declared.Cells.{Cells}
 use Rattle.best.specs.Asks.{CellsOf, Unfolded}
-
--- No call takes more components than an apart one.
-pub any_kind : {kind : Kind} {hs ws gs : List ℕ} → StackLists kind hs ws gs → StackLists Apart hs ws gs
-any_kind {kind} s = record {
-  same_widths = s.same_widths;
-  same_seams = s.same_seams;
-  few = omega (arith, s.few, most_256 kind);
-  tall = s.tall;
-  low = s.low;
-  wide = s.wide;
-  slim = s.slim;
-  near = s.near;
-}
 
 abbrev none : Piece
 none = record { height = 0; width = 0; gap = 0; barred = false }
 
 abbrev nil : Component
 nil = component_in [] [] [] 0
-
-mark_low : (b : Bool) → mark_of b ≤ 1
-mark_low true = omega arith
-mark_low false = omega arith
 
 -- What one more component adds.
 cells_more : (cs : List Component) (k : ℕ) (d : Component) → k < length cs → cell_sum (take (suc k) cs) ≡ cell_sum (take k cs) + (get_or cs k d).width.0 * (get_or cs k d).height.0
@@ -117,35 +98,21 @@ module _ (s : List Piece) (a : columns s (StackLists Apart)) where
       most = omega (arith, t.most, a.few, heights_length s);
     }
 
-  pub sizes_ask : sizes s SizesAsk (length s)
-  sizes_ask = record { few = a.few; low = a.low; in_heights = omega (arith, heights_length s); in_widths = omega (arith, widths_length s) }
-
-  -- The gap behind the last piece.
-  module _ (last : ℕ) (e : last ≡ (get_or s (length s - 1) none).gap) where
-    last_is : last ≡ gap_at (seams_in s) (length s - 1)
-    last_is =
-        let i : get_or (seams_in s) (length s - 1) 0 ≡ 2 * (get_or s (length s - 1) none).gap + mark_of (get_or s (length s - 1) none).barred =
-        get_or-map (λ x. 2 * x.gap + mark_of x.barred) s (length s - 1) none in
-        omega (arith, mark_low (get_or s (length s - 1) none).barred)
-
-    pub last_most : last ≤ 4000
-    last_most = omega (arith, last_is, a.near (length s - 1))
-
-    pub unfolded : 0 < length s → (z : Sizes) → sizes s SizesOf (length s) z → (d : Cells) → CellsOf cs d
-        → Unfolded cs (record { widest = z.widest; tallest = d.tallest; height = record { 0 = z.tall.0 + last }; cells = d.count })
-    unfolded some z m d t =
-        let all = all_of (length s) refl in
-        let behind : last ≡ gap_at (seams_in s) (length (heights_in s) - 1) = rw (heights_length s) last_is in
-        record {
-          widest_is = rw all at (m.widest_is (seams_in s));
-          tallest_is = t.tallest_is;
-          height_is = omega (
-            arith,
-            rw all at (m.tall_is (seams_in s)),
-            gap_behind_all (heights_in s) (widths_in s) (seams_in s) (omega (arith, heights_length s)),
-            behind,
-          );
-          low = omega (arith, m.low, last_most);
-          cells_is = t.count_is;
-          cells_most = t.most;
-        }
+  pub unfolded : 0 < length s → (z : Sizes) → SizesOf cs z → (high : ℕ) → high ≡ z.tall.0 + 0 + gap_at (seams_in s) (length s - 1) → (d : Cells) → CellsOf cs d
+      → Unfolded cs (record { widest = z.widest; tallest = d.tallest; height = record { 0 = high }; cells = d.count })
+  unfolded some z m high h d t =
+      let last : gap_at (seams_in s) (length (heights_in s) - 1) ≡ gap_at (seams_in s) (length s - 1) = rw (heights_length s) refl in
+      record {
+        widest_is = m.widest_is;
+        tallest_is = t.tallest_is;
+        height_is = omega (
+          arith,
+          m.tall_is,
+          h,
+          gap_behind_all (heights_in s) (widths_in s) (seams_in s) (omega (arith, heights_length s)),
+          last,
+        );
+        low = omega (arith, h, m.low, a.near (length s - 1));
+        cells_is = t.count_is;
+        cells_most = t.most;
+      }

@@ -1,28 +1,31 @@
 -- What the functions of this crate ask and promise.
-use Rattle.std.specs.Prelude.{ℕ, ◌*◌, ◌≤◌, ◌<◌, ◌≡◌, List, length, drop}
+use Rattle.std.specs.Prelude.{ℕ, ◌*◌, ◌≤◌, ◌<◌, ◌≡◌, List, length, drop, true}
 use Rattle.terms.specs.Numbers.{most_size, most_apart, most_limit}
 use Rattle.terms.specs.declared.Component.{Component}
 use Rattle.terms.specs.declared.Kind.{Kind}
 use Rattle.terms.specs.Answer.{Answer, refusal, result}
 use Rattle.terms.specs.Component.{cell_sum, tallest}
+use Rattle.terms.specs.Seams.{components_in}
 use Rattle.folding.specs.declared.Outline.{Outline}
 use Rattle.folding.specs.Placement.{placements_of}
-use Rattle.group.specs.Group.{none, widest, flat_height}
+use Rattle.group.specs.Group.{none, unbarred, widest, flat_height}
 use Rattle.layout.specs.Layout.{layout_of}
 use Rattle.layout.proofs.Folds.{Folds}
-use Rattle.plan.specs.Asks.{Plannable, PlanAsks, best_at}
-use Rattle.plan.specs.Memory.{Known}
+use Rattle.layout.specs.Plan.{StackLists}
+use Rattle.plan.specs.Asks.{Plannable, plan_room, best_at}
 use Rattle.best.specs.declared.Cells.{Cells}
 use Rattle.best.specs.declared.Flat.{Flat}
+
+-- A stack with room in a work buffer to plan it.
+pub record Room (kind : Kind) (hs ws gs work : List ℕ) : Type 0 where
+  pub lists : StackLists kind hs ws gs
+  pub some : 0 < length hs
+  pub free : unbarred (components_in hs ws gs) ≡ true
+  pub room : plan_room kind ≤ length work
 
 -- A stack with room to plan it and for its placements.
 abbrev pub Foldable : Kind → ℕ → List ℕ → List ℕ → List ℕ → List ℕ → List ℕ → Type 0
 Foldable kind limit hs ws gs out work = Plannable kind hs ws gs work × (limit ≤ most_limit) × (3 * length hs ≤ length out)
-
--- With room for its plan, which with the work buffer holds one for `known` if that is over the limit.
-abbrev pub Replannable : Kind → ℕ → ℕ → List ℕ → List ℕ → List ℕ → List ℕ → List ℕ → List ℕ → List ℕ → Type 0
-Replannable kind known limit hs ws gs widths heights ends work =
-    PlanAsks kind limit hs ws gs widths heights ends work × Known kind known limit hs ws gs widths heights ends work
 
 -- A folding with the outline of the best layout for the limit is written where there is one.
 abbrev pub Written : Kind → List Component → ℕ → List ℕ → List ℕ → Answer Outline → Type 0

@@ -1,1 +1,3 @@
 pub mod Asks
+pub mod Task
+pub mod Search

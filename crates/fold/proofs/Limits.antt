@@ -3,36 +3,29 @@ use Prim.Native.Nat.{ℕ, ◌+◌, ◌≤◌, ◌<◌}
 use mathlib.Core.Path.{◌≡◌, refl}
 use mathlib.Core.List.{List}
 use native.Mathlib.Omega.{arith}
-use lib.ListN.{length}
 use Rattle.terms.specs.declared.Component.{Component}
 use Rattle.terms.specs.declared.Kind.{Kind}
-use Rattle.terms.specs.declared.Piece.{Piece}
-use Rattle.terms.specs.Pieces.{columns, stack_in}
 use Rattle.terms.specs.Answer.{Answer, refusal, result}
 use Rattle.folding.specs.declared.Outline.{Outline}
 use Rattle.model.proofs.Best.{unmeetable_height, layout_high, below_one, below_own, no_lower, own_height}
 use Rattle.layout.specs.Layout.{layout_of}
-use Rattle.layout.specs.Plan.{lists}
-use Rattle.layout.specs.declared.Entry.{Entry}
 use Rattle.layout.proofs.Foldings.{search}
 use Rattle.layout.proofs.Best.{best_height, best_width}
 use Rattle.layout.proofs.Widest.{widest_some, none_narrower, flat_enough}
 use Rattle.group.specs.Group.{none}
 use Rattle.fold.specs.Calls.{by_height, by_width, Searched}
 use Rattle.plan.specs.Asks.{best_at}
-use Rattle.plan.specs.Memory.{Known}
 use Rattle.best.specs.declared.Flat.{Flat}
+use Rattle.best.specs.Task.{Task}
 use Rattle.best.specs.Asks.{Written, Unfolded}
 use Rattle.fold.specs.Inner.{LeastFor, Between}
 use Rattle.layout.proofs.Groups.{Stacked}
 
 -- What the search for a height has found so far: the least one lies between lo and hi, and `plans` plans were made, the last
--- of them for `known` and the last `failed` of them too wide.
-pub record Searching (kind : Kind) (s : List Piece) (most lo hi known plans failed : ℕ) (plan plan' : List Entry) (work work' : List ℕ) : Type 0 where
-  pub between : Between kind (stack_in s) most lo hi
-  pub held : lists plan' (columns s (Known kind known 0)) work'
-  pub plan_long : length plan' ≡ length plan
-  pub work_long : length work' ≡ length work
+-- `failed` of them too wide.
+pub record Searching (t : Task) (most lo hi plans failed : ℕ) (now : Task) : Type 0 where
+  pub between : Between t.kind t.components most lo hi
+  pub same : now ≡ t
   pub counted : plans + hi ≤ lo + 2000000
   pub few : failed ≤ plans
 

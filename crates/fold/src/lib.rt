@@ -5,16 +5,16 @@ ghost use Rattle.std.specs.Prelude.{◌≡◌, ◌*◌, ◌≤◌, ◌<◌};
 ghost use Rattle.terms.specs.Numbers.{most_limit};
 ghost use Rattle.terms.specs.Answer.{answer_of};
 ghost use Rattle.terms.specs.Pieces.{columns, stack_in};
-ghost use Rattle.layout.specs.Plan.{lists};
 ghost use Rattle.best.specs.Asks.{Foldable, Written, most_cells};
-ghost use Rattle.fold.specs.Calls.{room_checks, fold_checks, by_width, Searched, ToHeight, ToWidth};
-ghost use Rattle.fold.specs.Inner.{LeastFound, LeastAsks};
+ghost use Rattle.fold.specs.Calls.{work_check, room_checks, fold_checks, by_width, Searched, ToHeight, ToWidth};
+ghost use Rattle.fold.specs.Inner.{LeastFor, LeastAsks};
 
-use best::product;
+use best::{Search, product};
 use folding::Outline;
 use layout::Entry;
 use plan::LISTED;
-use terms::{Kind, LEAST_WORK, MOST_APART, MOST_LIMIT, Piece, Refusal, Rows, Slices};
+use stack::Stack;
+use terms::{Kind, LEAST_WORK, MOST_LIMIT, Piece, Refusal, Rows, Slices};
 
 // The plans of a search that may all be guessed. Of the later ones every second halves.
 const GUESSED: u32 = 4;
@@ -33,28 +33,38 @@ const SECOND_RISE: u32 = 16;
 
 const LATER_RISE: u32 = 4;
 
-// What a search for a height found, and the limit that its last plan is for: 0 where it made none.
+// A width that is asked for.
 #[derive(Clone, Copy, Debug, PartialEq, Eq)]
-struct Least {
-    limit: Rows,
-    known: Rows,
+struct Asked {
+    width: Slices,
+    ghost some: { 0 < width.0 },
+}
+
+// Refusal 8 of a call with a work buffer of this length lent.
+pub fn check_work(work: usize) -> Result<(), Refusal>
+    ensures { answer_of result ≡ work_check work tt }
+{
+    if work < LEAST_WORK {
+        return Err(Refusal::ShortBuffer);
+    }
+    Ok(())
 }
 
 // Refusal 8 of a call that writes a folding, with buffers of these lengths lent.
-pub fn check_room(n: usize, out: usize, work: usize) -> Result<usize, Refusal>
-    ensures { answer_of result ≡ room_checks out work n n }
+pub fn check_room(n: usize, out: usize, work: usize) -> Result<(), Refusal>
+    ensures { answer_of result ≡ room_checks out work n tt }
 {
-    if out / 3 < n || work < LEAST_WORK {
+    if out / 3 < n {
         return Err(Refusal::ShortBuffer);
     }
-    Ok(n)
+    check_work(work)
 }
 
 // Refusals 7 and 8 of a fold call.
-fn check_lent(n: usize, limit: u32, out: usize, work: usize) -> Result<usize, Refusal>
-    ensures { answer_of result ≡ fold_checks limit out work n n }
+fn check_lent(n: usize, limit: u32, out: usize, work: usize) -> Result<(), Refusal>
+    ensures { answer_of result ≡ fold_checks limit out work n tt }
 {
-    if limit < 1 || MOST_LIMIT < limit {
+    if !(1..=MOST_LIMIT).contains(&limit) {
         return Err(Refusal::BadLimit);
     }
     check_room(n, out, work)
@@ -72,53 +82,55 @@ fn write_low(
     ensures { Written kind (stack_in stack.now) limit.0
         out.old out.new (answer_of result) }
 {
-    let mut plan = [Entry::UNMET; LISTED];
-    best::write_best(kind, Rows(0), limit, stack, &mut plan, out, work)
+    let mut plan = [Entry::EMPTY; LISTED];
+    Search::new(kind, stack, &mut plan, work).write(limit, out)
 }
 
-// The height to try first: the components' cells at the width asked, and what stays empty.
-fn first_guess(cells: u64, most: Slices) -> u64
-    requires { (cells ≤ most_cells) × (0 < most.0) }
-{
-    let rows = cells / u64::from(most.0);
-    rows + rows / SPARE
-}
-
-// The height at which an outline as wide as asked has the same area.
-fn in_proportion(height: Rows, width: Slices, most: Slices) -> u64
-    requires { 0 < most.0 }
-    ensures { result ≤ height.0 * width.0 }
-{
-    product(height.0, width.0) / u64::from(most.0)
-}
-
-// The height to try after a plan that keeps the width. Width times height changes little from outline to outline.
-fn lower_guess(most: Slices, o: Outline) -> u64
-    requires { (0 < most.0) × (o.width.0 ≤ most.0) }
-{
-    if CLOSE * u64::from(most.0 - o.width.0) < u64::from(most.0) {
-        return u64::from(o.height.0);
+impl Asked {
+    // The height to try first: the components' cells at the width, and what stays empty.
+    fn first_guess(self, cells: u64) -> u64
+        requires { cells ≤ most_cells }
+    {
+        let rows = cells / u64::from(self.width.0);
+        rows + rows / SPARE
     }
-    in_proportion(o.height, o.width, most)
+
+    // The height at which an outline of the width has the same area.
+    fn in_proportion(self, height: Rows, width: Slices) -> u64
+        ensures { result ≤ height.0 * width.0 }
+    {
+        product(height.0, width.0) / u64::from(self.width.0)
+    }
+
+    // The height to try after a plan that keeps the width. Width times height changes little from outline to outline.
+    fn lower_guess(self, o: Outline) -> u64
+        requires { o.width.0 ≤ self.width.0 }
+    {
+        if CLOSE * u64::from(self.width.0 - o.width.0) < u64::from(self.width.0) {
+            return u64::from(o.height.0);
+        }
+        self.in_proportion(o.height, o.width)
+    }
+
+    // The height to try after a plan, where `failed` in a row before it did not keep the width. No answer rests on it.
+    fn next_guess(self, tried: Rows, found: Option<Outline>, failed: u32) -> u64
+        requires { tried.0 ≤ most_limit }
+    {
+        match found {
+            Some(o) if o.width <= self.width => self.lower_guess(o),
+            Some(o) => self.in_proportion(tried, o.width) + u64::from(rise(tried, failed)),
+            None => 2 * u64::from(tried.0),
+        }
+    }
 }
 
-// By how many rows the guess goes up behind a layout that is too wide, where `failed` in a row before it were so too.
+// By how many rows the guess goes up behind a layout that is too wide, where `failed` plans in a row before it did not keep
+// the width.
 fn rise(tried: Rows, failed: u32) -> u32 {
     match failed {
         0 => tried.0 / RISE,
         1 => tried.0 / SECOND_RISE,
         _ => tried.0 / LATER_RISE,
-    }
-}
-
-// The height to try after a plan, where `failed` in a row before it were too wide. No answer rests on it.
-fn next_guess(most: Slices, tried: Rows, found: Option<Outline>, failed: u32) -> u64
-    requires { (0 < most.0) × (tried.0 ≤ most_limit) }
-{
-    match found {
-        Some(o) if o.width.0 <= most.0 => lower_guess(most, o),
-        Some(o) => in_proportion(tried, o.width, most) + u64::from(rise(tried, failed)),
-        None => 2 * u64::from(tried.0),
     }
 }
 
@@ -129,44 +141,36 @@ fn pick(lo: u32, hi: u32, guess: u64, plans: u32) -> u32
     ensures { (lo ≤ result) × (result < hi) }
 {
     if GUESSED <= plans && plans % 2 == 0 {
-        return lo + (hi - lo) / 2;
+        return lo.midpoint(hi);
     }
     guess.clamp(u64::from(lo), u64::from(hi - 1)) as u32
 }
 
 // The least height for which the best layout is at most so many slices wide, from one down for which it is. A layout that
 // is narrow enough is so within its own height, and that may be far below the height it was planned for. One exactly as
-// wide as asked is the last: below its height all are wider. A plan takes over from the one before what keeps its limit.
-fn least_height(
-    kind: Kind,
-    most: Slices,
-    top: Rows,
-    first: u64,
-    stack: &[Piece],
-    plan: &mut [Entry],
-    work: &mut [u32],
-) -> Least
-    requires { lists plan.old (columns stack.now (LeastAsks kind)) work.old most.0 top.0 }
-    ensures { lists plan.new (columns stack.now (LeastFound kind)) work.new most.0 result }
+// wide as asked is the last: below its height all are wider.
+fn least_height(search: &mut Search, asked: Asked, top: Rows, first: u64) -> Rows
+    requires { LeastAsks search.old asked.width.0 top.0 }
+    ensures same { search.new ≡ search.old }
+    ensures least_for { LeastFor search.old.kind search.old.components asked.width.0 result.0 }
 {
+    let most = asked.width;
     let mut lo = 1;
     let mut hi = top.0;
-    let mut known = Rows(0);
     let mut guess = first;
     let mut plans = 0;
     let mut failed = 0;
     while lo < hi {
         let mid = pick(lo, hi, guess, plans);
         let tried = Rows(mid);
-        let found = plan::replan(kind, known, tried, stack, plan, work);
-        known = tried;
-        guess = next_guess(most, tried, found, failed);
+        let found = search.outline(tried);
+        guess = asked.next_guess(tried, found, failed);
         plans += 1;
         match found {
-            Some(o) if o.width.0 <= most.0 => {
+            Some(o) if o.width <= most => {
                 hi = o.height.0;
                 failed = 0;
-                if o.width.0 == most.0 {
+                if o.width == most {
                     lo = hi;
                 }
             }
@@ -176,10 +180,7 @@ fn least_height(
             }
         }
     }
-    Least {
-        limit: Rows(lo),
-        known,
-    }
+    Rows(lo)
 }
 
 // The lowest folding within a width, and of those the narrowest. No folding is narrower than the widest component, and
@@ -197,13 +198,19 @@ fn write_slim(
         out.old out.new (answer_of result) }
 {
     let flat = best::flat_of(stack);
-    if most.0 < flat.widest.0 {
+    if most < flat.widest {
         return Err(Refusal::Unmeetable);
     }
-    let first = first_guess(flat.cells, most);
-    let mut plan = [Entry::UNMET; LISTED];
-    let least = least_height(kind, most, flat.height, first, stack, &mut plan, work);
-    best::write_best(kind, least.known, least.limit, stack, &mut plan, out, work)
+    let asked = Asked { width: most };
+    let mut plan = [Entry::EMPTY; LISTED];
+    let mut search = Search::new(kind, stack, &mut plan, work);
+    let least = least_height(
+        &mut search,
+        asked,
+        flat.height,
+        asked.first_guess(flat.cells),
+    );
+    search.write(least, out)
 }
 
 pub fn to_height(
@@ -216,10 +223,10 @@ pub fn to_height(
     ensures { ToHeight kind file.now limit.0
         out.old work.old (answer_of result) out.new work.new }
 {
-    let mut room = [Piece::NONE; MOST_APART];
-    let n = stack::read_pieces(file, kind, &mut room)?;
-    check_lent(n, limit.0, out.len(), work.len())?;
-    write_low(kind, limit, &room[..n], out, work)
+    let stack = Stack::read(file, kind)?;
+    let pieces = stack.pieces();
+    check_lent(pieces.len(), limit.0, out.len(), work.len())?;
+    write_low(kind, limit, pieces, out, work)
 }
 
 pub fn to_width(
@@ -232,8 +239,8 @@ pub fn to_width(
     ensures { ToWidth kind file.now limit.0
         out.old work.old (answer_of result) out.new work.new }
 {
-    let mut room = [Piece::NONE; MOST_APART];
-    let n = stack::read_pieces(file, kind, &mut room)?;
-    check_lent(n, limit.0, out.len(), work.len())?;
-    write_slim(kind, limit, &room[..n], out, work)
+    let stack = Stack::read(file, kind)?;
+    let pieces = stack.pieces();
+    check_lent(pieces.len(), limit.0, out.len(), work.len())?;
+    write_slim(kind, limit, pieces, out, work)
 }

@@ -3,7 +3,6 @@ use Rattle.std.specs.Prelude.{ℕ, ◌*◌, ◌≤◌, ◌<◌, List}
 use Rattle.terms.specs.Numbers.{most_limit}
 use Rattle.terms.specs.declared.Component.{Component}
 use Rattle.terms.specs.declared.Kind.{Kind}
-use Rattle.terms.specs.Seams.{components_in}
 use Rattle.folding.specs.declared.Outline.{Outline}
 use Rattle.folding.specs.declared.Placement.{Placement}
 use Rattle.folding.specs.Legal.{Legal}
@@ -13,8 +12,6 @@ use Rattle.model.specs.Area.{Leads}
 use Rattle.group.specs.Group.{none, widest}
 use Rattle.layout.specs.Layout.{layout_of}
 use Rattle.plan.specs.Asks.{best_at}
-use Rattle.plan.specs.Memory.{Known}
-use Rattle.fold_area.specs.declared.Found.{Found}
 
 -- An outline to lead with: a layout within its height is no wider, and its area is at most that of the greatest height at the
 -- width of the widest component.
@@ -36,8 +33,3 @@ pub record SmallestFor (kind : Kind) (cs : List Component) (height : ℕ) : Type
   pub most : height ≤ most_limit
   pub met : (layout_of kind height 0 cs).width < none
   pub smallest : (other : List Placement) → Legal kind cs other → Larger (best_at kind height cs) (outline_of cs other)
-
--- What the pass finds. The entries and the work buffer hold a plan if `known` is not 0.
-pub record AreaFound (kind : Kind) (hs ws gs widths heights ends work : List ℕ) (r : Found) : Type 0 where
-  pub smallest_for : SmallestFor kind (components_in hs ws gs) r.height.0
-  pub held : Known kind r.known.0 0 hs ws gs widths heights ends work

@@ -7,28 +7,21 @@ ghost use Rattle.terms.specs.Answer.{answer_of};
 ghost use Rattle.terms.specs.Pieces.{stack_in, columns};
 ghost use Rattle.folding.specs.Best.{area_of};
 ghost use Rattle.model.specs.Area.{smaller_of, next_limit};
-ghost use Rattle.layout.specs.Plan.{lists};
-ghost use Rattle.plan.specs.Asks.{PlanAsks};
+ghost use Rattle.layout.proofs.Groups.{Stacked};
 ghost use Rattle.best.specs.Asks.{Foldable, Unfolded};
 ghost use Rattle.fold.specs.Calls.{Searched};
 ghost use Rattle.fold_area.specs.Calls.{by_area, SmallestOf};
-ghost use Rattle.fold_area.specs.Inner.{Lead, AreaFound};
+ghost use Rattle.fold_area.specs.Inner.{Lead, SmallestFor};
 
-use best::{Flat, product};
+use best::{Flat, Search, product};
 use folding::Outline;
 use layout::Entry;
 use plan::LISTED;
-use terms::{Kind, MOST_APART, Piece, Refusal, Rows, Slices};
+use stack::Stack;
+use terms::{Kind, Piece, Refusal, Rows, Slices};
 
 // A stack is planned first for a part of its height, one in twice as many and lower, where that is over the tallest component.
 const LOW: u32 = 8;
-
-// The height of the outline of smallest area, and the limit of the plan that was made last. That is 0 where none was made.
-#[derive(Clone, Copy, Debug, PartialEq, Eq)]
-struct Found {
-    height: Rows,
-    known: Rows,
-}
 
 fn area(o: Outline) -> u64
     ensures { result ≡ area_of o }
@@ -40,7 +33,7 @@ fn area(o: Outline) -> u64
 fn smaller(a: Outline, b: Outline) -> Outline
     ensures { result ≡ smaller_of a b }
 {
-    if (area(a), a.width.0) <= (area(b), b.width.0) {
+    if (area(a), a.width) <= (area(b), b.width) {
         a
     } else {
         b
@@ -66,76 +59,47 @@ fn next_limit(o: Outline, least: Slices, cells: u64) -> Rows
 // A small area to begin with, that of the stack without a fold or of a low and wide folding. Each plan is for half the height
 // of the one before, down to the tallest component or to where no folding is so low. Where the stack without a fold is all
 // cells, nothing is smaller and none is made.
-fn first_lead(
-    kind: Kind,
-    flat: Flat,
-    stack: &[Piece],
-    plan: &mut [Entry],
-    work: &mut [u32],
-) -> Outline
-    requires plan_asks { lists plan.old (columns stack.now (PlanAsks kind most_limit)) work.old }
-    requires unfolded { Unfolded (stack_in stack.now) flat }
-    ensures { Lead kind (stack_in stack.now) result }
+fn first_lead(search: &mut Search, flat: Flat) -> Outline
+    requires stacked { Stacked search.old.components }
+    requires unfolded { Unfolded search.old.components flat }
+    ensures same { search.new ≡ search.old }
+    ensures lead { Lead search.old.kind search.old.components result }
 {
     let mut lead = Outline {
         width: flat.widest,
         height: flat.height,
     };
-    let mut known = Rows(0);
-    let mut limit = next_limit(lead, lead.width, flat.cells).0 / LOW;
-    while flat.tallest.0 < limit {
-        limit = flat.tallest.0.max(limit / 2);
-        let Some(o) = plan::replan(kind, known, Rows(limit), stack, plan, work) else {
+    let mut limit = Rows(next_limit(lead, lead.width, flat.cells).0 / LOW);
+    while flat.tallest < limit {
+        limit = Rows(flat.tallest.0.max(limit.0 / 2));
+        let Some(o) = search.outline(limit) else {
             return lead;
         };
         lead = smaller(o, lead);
-        known = Rows(limit);
     }
     lead
 }
 
-// The smallest area of all. No folding is narrower than the widest component, and behind each outline found all are wider, so
-// one smaller than the best so far is low: the limits above that are left out, and none is below the tallest component.
-fn pass(
-    kind: Kind,
-    flat: Flat,
-    first: Outline,
-    stack: &[Piece],
-    plan: &mut [Entry],
-    work: &mut [u32],
-) -> Found
-    requires plan_asks { lists plan.old (columns stack.now (PlanAsks kind most_limit)) work.old }
-    requires unfolded { Unfolded (stack_in stack.now) flat }
-    requires lead { Lead kind (stack_in stack.now) first }
-    ensures { lists plan.new (columns stack.now (AreaFound kind)) work.new result }
+// The height of the outline of smallest area. No folding is narrower than the widest component, and behind each outline found
+// all are wider, so one smaller than the best so far is low: the limits above that are left out, and none is below the tallest
+// component.
+fn pass(search: &mut Search, flat: Flat, first: Outline) -> Rows
+    requires stacked { Stacked search.old.components }
+    requires unfolded { Unfolded search.old.components flat }
+    requires lead { Lead search.old.kind search.old.components first }
+    ensures same { search.new ≡ search.old }
+    ensures smallest { SmallestFor search.old.kind search.old.components result.0 }
 {
     let mut lead = first;
-    let mut known = Rows(0);
     let mut limit = next_limit(lead, flat.widest, flat.cells);
-    while flat.tallest.0 <= limit.0 {
-        let Some(o) = plan::replan(kind, known, limit, stack, plan, work) else {
-            return Found {
-                height: lead.height,
-                known: limit,
-            };
+    while flat.tallest <= limit {
+        let Some(o) = search.outline(limit) else {
+            return lead.height;
         };
         lead = smaller(o, lead);
-        known = limit;
         limit = next_limit(lead, Slices(o.width.0 + 1), flat.cells);
     }
-    Found {
-        height: lead.height,
-        known,
-    }
-}
-
-fn smallest(kind: Kind, stack: &[Piece], plan: &mut [Entry], work: &mut [u32]) -> Found
-    requires { lists plan.old (columns stack.now (PlanAsks kind most_limit)) work.old }
-    ensures { lists plan.new (columns stack.now (AreaFound kind)) work.new result }
-{
-    let flat = best::flat_of(stack);
-    let first = first_lead(kind, flat, stack, plan, work);
-    pass(kind, flat, first, stack, plan, work)
+    lead.height
 }
 
 // The folding of smallest area is the best one within its own height.
@@ -150,9 +114,12 @@ fn write_smallest(
         (stack_in stack.now)
         out.old out.new (answer_of result) }
 {
-    let mut plan = [Entry::UNMET; LISTED];
-    let found = smallest(kind, stack, &mut plan, work);
-    best::write_best(kind, found.known, found.height, stack, &mut plan, out, work)
+    let flat = best::flat_of(stack);
+    let mut plan = [Entry::EMPTY; LISTED];
+    let mut search = Search::new(kind, stack, &mut plan, work);
+    let first = first_lead(&mut search, flat);
+    let height = pass(&mut search, flat, first);
+    search.write(height, out)
 }
 
 pub fn smallest_area(
@@ -164,8 +131,8 @@ pub fn smallest_area(
     ensures { SmallestOf kind file.now
         out.old work.old (answer_of result) out.new work.new }
 {
-    let mut room = [Piece::NONE; MOST_APART];
-    let n = stack::read_pieces(file, kind, &mut room)?;
-    fold::check_room(n, out.len(), work.len())?;
-    write_smallest(kind, &room[..n], out, work)
+    let stack = Stack::read(file, kind)?;
+    let pieces = stack.pieces();
+    fold::check_room(pieces.len(), out.len(), work.len())?;
+    write_smallest(kind, pieces, out, work)
 }

@@ -4,16 +4,19 @@ use mathlib.Core.Path.{◌≡◌, refl, sym, ap, ◌∙◌}
 use mathlib.Core.List.{List, [], ◌∷◌, ◌++◌, append-nil, append_assoc}
 use native.Mathlib.Omega.{arith}
 use lib.ListN.{length, take, drop, take-append-drop}
-use lib.Seq.{drop-drop, drop-append_seam}
-use borrow.Author.Tests.{lt-ltb, le-ltb}
+use lib.Seq.{drop-drop}
+use lib.Dec.{ltb}
+use borrow.Author.Tests.{lt-ltb, le-ltb, ltb-false}
+use Rattle.std.specs.Prelude.{Result, Ok}
 use Rattle.terms.specs.declared.Component.{Component}
 use Rattle.terms.specs.declared.Kind.{Kind}
 use Rattle.terms.specs.declared.Piece.{Piece}
-use Rattle.terms.specs.Answer.{Answer, refusal, result}
+use Rattle.terms.specs.Answer.{Answer, refusal, result, answer_of}
+use Rattle.terms.specs.declared.Refusal.{Refusal}
+use Rattle.terms.proofs.Answers.{passed}
 use Rattle.terms.specs.Component.{width_sum}
 use Rattle.terms.specs.Pieces.{columns, stack_in}
 use Rattle.terms.proofs.Pieces.{heights_length}
-use Rattle.stack.specs.File.{check_of}
 use Rattle.stack.proofs.Reading.{Held, components_held}
 use Rattle.folding.specs.declared.Outline.{Outline}
 use Rattle.folding.specs.Best.{Listing}
@@ -37,19 +40,10 @@ drop_on old new n e =
     let z : 2 * (n + 1) ≡ 2 * n + 2 = omega arith in
     rw z (sym (drop-drop 2 (2 * n) new) ∙ ap (λ (l : List ℕ). drop 2 l) e ∙ drop-drop 2 (2 * n) old)
 
--- What waits behind the first `from` numbers of a buffer.
-pub waited : (front waiting : List ℕ) (from k : ℕ) → length front ≡ from → take (from + k - from) (drop from (front ++ waiting)) ≡ take k waiting
-waited front waiting from k e =
-    let z : from + k - from ≡ k = omega arith in
-    rw (z, ← e, drop-append_seam front waiting)
-
 none_to : (kind : Kind) (cs : List Component) (limit : ℕ) → limit ≤ 0 → outlines_to kind cs limit ≡ []
 unfolding outlines_by
 none_to kind cs zero h = refl
 none_to kind cs (suc limit) h = absurd (omega arith)
-
-pub gather_starts : (kind : Kind) (cs : List Component) (old : List ℕ) → GatheredTo kind cs old old 2000000 0
-gather_starts kind cs old = record { most = omega arith; rest = omega arith; front = λ h. refl; beyond = refl }
 
 -- What one more outline means for the count, for the limit behind it and for the buffer.
 pub record Counted (kind : Kind) (cs : List Component) (old new : List ℕ) (limit n : ℕ) (o : Outline) : Type 0 where
@@ -133,23 +127,24 @@ module _ (kind : Kind) (cs : List Component) (s : Stacked cs) where
         let k : n ≡ m = omega (arith, e, g.all) in
         all_listed out' h (sym (take-append-drop (2 * m) out') ∙ rw (k, g.front (omega arith), g.beyond))
 
+-- What follows where the check of the work buffer passes.
+pub work_held : (work : ℕ) {r : Result (Unit {0}) Refusal} → answer_of r ≡ work_check work tt → r ≡ Ok tt → 8192 ≤ work
+work_held work f o = ltb-false _ _ (passed (ltb work 8192) 8 (result tt) tt (sym f ∙ ap answer_of o)).0
+
 -- The calls' answers.
 module _ (kind : Kind) (out work : List ℕ) where
   pub tabled : (out' work' : List ℕ) (answer : Answer ℕ) (cs : List Component) → 8192 ≤ length work → Tabled kind cs out out' answer → TableAnswered kind out work out' work' answer (work_check (length work) cs)
   tabled out' work' answer cs h t = rw (le-ltb (length work) 8192 h) t
 
-  pub refused_file : (file : List ℕ) (k : ℕ) → check_of kind file ≡ refusal k → TableAnswered kind out work out work (refusal k) (table_valid_of kind file work)
-  refused_file file k e = rw e (refl, refl, refl)
-
-  pub of_file : {file : List ℕ} {n : ℕ} {room : List Piece} (h : Held kind file n room) (out' work' : List ℕ) (answer : Answer ℕ)
-      → TableAnswered kind out work out' work' answer (work_check (length work) (stack_in (take n room))) → TableAnswered kind out work out' work' answer (table_valid_of kind file work)
+  pub of_file : {file : List ℕ} {s : List Piece} (h : Held kind file s) (out' work' : List ℕ) (answer : Answer ℕ)
+      → TableAnswered kind out work out' work' answer (work_check (length work) (stack_in s)) → TableAnswered kind out work out' work' answer (table_valid_of kind file work)
   of_file h out' work' answer a = rw h.checked (rw (components_held h) at a)
 
 -- The stack that was read can be planned.
-pub list_asks : {kind : Kind} {file : List ℕ} {n : ℕ} {room : List Piece} {work : List ℕ} → Held kind file n room → 8192 ≤ length work → columns (take n room) (Plannable kind) work
-list_asks {n = n} {room = room} h w =
+pub list_asks : {kind : Kind} {file : List ℕ} {s : List Piece} {work : List ℕ} → Held kind file s → 8192 ≤ length work → columns s (Plannable kind) work
+list_asks {s = s} h w =
     let r = read h in
-    record { lists = r.lists; some = omega (arith, heights_length (take n room), r.some); free = r.free; room = w }
+    record { lists = r.lists; some = omega (arith, heights_length s, r.some); free = r.free; room = w }
 
 -- A call that its checks refuse answers so, and leaves what was lent as it was.
 pub refused_call : (kind : Kind) (out work out' work' : List ℕ) (answer : Answer ℕ) (k : ℕ) (valid : Answer (List Component)) → valid ≡ refusal k → TableAnswered kind out work out' work' answer valid

@@ -2,51 +2,45 @@
 #![tactic(auto)]
 
 ghost use Rattle.std.specs.Prelude.{◌≡◌, ◌*◌, ◌≤◌, length};
-ghost use Rattle.terms.specs.Numbers.{most_limit};
 ghost use Rattle.terms.specs.Answer.{answer_of};
 ghost use Rattle.terms.specs.Pieces.{stack_in, columns};
-ghost use Rattle.layout.specs.Plan.{lists};
-ghost use Rattle.plan.specs.Asks.{PlanAsks, Plannable};
+ghost use Rattle.plan.specs.Asks.{Plannable};
+ghost use Rattle.best.specs.Asks.{Room};
 ghost use Rattle.fold_table.specs.Calls.{Tabled, TableOf};
 ghost use Rattle.fold_table.specs.Inner.{PairKept, Gathered};
 
+use best::Search;
 use folding::Outline;
 use layout::Entry;
 use plan::LISTED;
-use terms::{Kind, LEAST_WORK, MOST_APART, MOST_LIMIT, Piece, Refusal, Rows};
+use stack::Stack;
+use terms::{Kind, MOST_LIMIT, Piece, Refusal, Rows};
 
 // Pair n of a buffer is this outline, where there is room for it.
 fn keep_pair(pairs: &mut [u32], n: usize, o: Outline)
     ensures { PairKept n o pairs.old pairs.new }
 {
     if n < pairs.len() / 2 {
-        pairs[2 * n] = o.width.0;
-        pairs[2 * n + 1] = o.height.0;
+        pairs[2 * n..2 * n + 2].copy_from_slice(&[o.width.0, o.height.0]);
     }
 }
 
 // How many outlines are unbeaten: each is the best one below the height of the one before, so widths rise and heights fall.
 // As many as there is room for are left in `pairs`.
-fn gather(
-    kind: Kind,
-    stack: &[Piece],
-    plan: &mut [Entry],
-    work: &mut [u32],
-    pairs: &mut [u32],
-) -> usize
-    requires { lists plan.old (columns stack.now (PlanAsks kind most_limit)) work.old }
+fn gather(kind: Kind, stack: &[Piece], work: &mut [u32], pairs: &mut [u32]) -> usize
+    requires { columns stack.now (Room kind) work.old }
     ensures { Gathered kind (stack_in stack.now) pairs.old pairs.new result }
 {
-    let mut known = Rows(0);
-    let mut limit = MOST_LIMIT;
+    let mut plan = [Entry::EMPTY; LISTED];
+    let mut search = Search::new(kind, stack, &mut plan, work);
+    let mut limit = Rows(MOST_LIMIT);
     let mut n = 0;
-    while 0 < limit {
-        let Some(o) = plan::replan(kind, known, Rows(limit), stack, plan, work) else {
+    while 0 < limit.0 {
+        let Some(o) = search.outline(limit) else {
             return n;
         };
         keep_pair(pairs, n, o);
-        known = Rows(limit);
-        limit = o.height.0 - 1;
+        limit = Rows(o.height.0 - 1);
         n += 1;
     }
     n
@@ -64,17 +58,15 @@ fn list_outlines(
     ensures { Tabled kind (stack_in stack.now)
         out.old out.new (answer_of result) }
 {
-    let mut plan = [Entry::UNMET; LISTED];
-    let from = plan::room(kind);
-    let (front, waiting) = work.split_at_mut(from);
-    let n = gather(kind, stack, &mut plan, front, waiting);
+    let (front, waiting) = work.split_at_mut(plan::room(kind));
+    let n = gather(kind, stack, front, waiting);
     if out.len() / 2 < n {
         return Err(Refusal::ShortBuffer);
     }
-    if from + 2 * n <= work.len() {
-        out[..2 * n].copy_from_slice(&work[from..from + 2 * n]);
+    if 2 * n <= waiting.len() {
+        out[..2 * n].copy_from_slice(&waiting[..2 * n]);
     } else {
-        gather(kind, stack, &mut plan, work, out);
+        gather(kind, stack, front, out);
     }
     Ok(n)
 }
@@ -83,10 +75,7 @@ pub fn table(file: &[u8], kind: Kind, out: &mut [u32], work: &mut [u32]) -> Resu
     ensures { TableOf kind file.now
         out.old work.old (answer_of result) out.new work.new }
 {
-    let mut room = [Piece::NONE; MOST_APART];
-    let n = stack::read_pieces(file, kind, &mut room)?;
-    if work.len() < LEAST_WORK {
-        return Err(Refusal::ShortBuffer);
-    }
-    list_outlines(kind, &room[..n], out, work)
+    let stack = Stack::read(file, kind)?;
+    fold::check_work(work.len())?;
+    list_outlines(kind, stack.pieces(), out, work)
 }

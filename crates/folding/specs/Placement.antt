@@ -1,5 +1,5 @@
 -- Placements (document 01, "Foldings").
-use Rattle.std.specs.Prelude.{ℕ, ◌+◌, ◌*◌, List, [], ◌∷◌, Bool, get_or, eqb}
+use Rattle.std.specs.Prelude.{ℕ, ◌+◌, ◌*◌, List, [], ◌∷◌, Bool, get_or, eqb, map}
 use Rattle.terms.specs.declared.Component.{Component}
 use Rattle.terms.specs.Component.{tabulate}
 use Rattle.folding.specs.declared.Placed.{Placed}
@@ -46,3 +46,17 @@ placements_of flat n = tabulate (placement_at flat) n
 abbrev pub flat_of : List Placement → List ℕ
 flat_of [] = []
 flat_of (p ∷ ps) = p.group ∷ p.side ∷ p.start ∷ flat_of ps
+
+-- The three numbers of a placement, and the placement that they stand for.
+abbrev pub numbers_of : Placement → List ℕ
+numbers_of p = p.group ∷ p.side ∷ p.start ∷ []
+
+abbrev pub placement_of : List ℕ → Placement
+placement_of numbers = record { group = get_or numbers 0 0; side = get_or numbers 1 0; start = get_or numbers 2 0 }
+
+abbrev pub placements_in : List (List ℕ) → List Placement
+placements_in = map placement_of
+
+-- Where a placement is asked for past the end of a list.
+abbrev pub none : Placement
+none = record { group = 0; side = 0; start = 0 }

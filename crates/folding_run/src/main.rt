@@ -9,19 +9,20 @@ ghost use Rattle.folding.specs.Placement.{flat_of};
 
 use folding::{Outline, Placement};
 use measure::{choose, measure};
+use std::fmt;
 use std::io::{self, BufWriter, Write};
+use terms::Kind::{Apart, Nested};
 use terms::{Kind, Refusal};
 
 // Heights 3, 1, 2, 4, widths 1, gaps 0.
 const PLAIN: [u8; 31] =
-    *b"STK\x01\x00\x04\x00\x03\x00\x01\x00\x00\x00\x01\x00\x01\x00\x00\x00\x02\x00\x01\x00\x00\x00\x04\x00\x01\x00\x00\x00";
+    *b"STK\x01\0\x04\0\x03\0\x01\0\0\0\x01\0\x01\0\0\0\x02\0\x01\0\0\0\x04\0\x01\0\0\0";
 
 // Heights 2, 3, 1, widths 4, 5, 6, gaps 7, 8, 0.
-const GAPPED: [u8; 25] =
-    *b"STK\x01\x00\x03\x00\x02\x00\x04\x00\x07\x00\x03\x00\x05\x00\x08\x00\x01\x00\x06\x00\x00\x00";
+const GAPPED: [u8; 25] = *b"STK\x01\0\x03\0\x02\0\x04\0\x07\0\x03\0\x05\0\x08\0\x01\0\x06\0\0\0";
 
 // Heights 2, 3, widths 4, 5, gaps 7, 0.
-const SHORT: [u8; 19] = *b"STK\x01\x00\x02\x00\x02\x00\x04\x00\x07\x00\x03\x00\x05\x00\x00\x00";
+const SHORT: [u8; 19] = *b"STK\x01\0\x02\0\x02\0\x04\0\x07\0\x03\0\x05\0\0\0";
 
 // As PLAIN, with a fold barred after the second component and a gap of 9 there.
 const BARRED: [u8; 39] =
@@ -29,12 +30,18 @@ const BARRED: [u8; 39] =
 
 // As GAPPED, with a fold barred after the first component.
 const BARRED_GAPPED: [u8; 31] =
-    *b"STK\x02\x00\x03\x00\x02\x00\x04\x00\x07\x00\x01\x00\x03\x00\x05\x00\x08\x00\x00\x00\x01\x00\x06\x00\x00\x00\x00\x00";
+    *b"STK\x02\0\x03\0\x02\0\x04\0\x07\0\x01\0\x03\0\x05\0\x08\0\0\0\x01\0\x06\0\0\0\0\0";
 
-fn say_measured(out: &mut impl Write, answer: Result<Outline, Refusal>) -> io::Result<()> {
-    match answer {
-        Ok(o) => write!(out, " {} {}", o.width.0, o.height.0),
-        Err(k) => write!(out, " refused {}", k.number()),
+// What measuring answers, as it is printed: an outline's width and height, or a refusal's number.
+#[derive(Clone, Copy, Debug, PartialEq, Eq)]
+struct Measured(Result<Outline, Refusal>);
+
+impl fmt::Display for Measured {
+    fn fmt<W: fmt::Write>(&self, f: &mut fmt::Formatter<W>) -> fmt::Result {
+        match self.0 {
+            Ok(o) => write!(f, "{} {}", o.width, o.height),
+            Err(k) => write!(f, "refused {}", k.number()),
+        }
     }
 }
 
@@ -45,230 +52,251 @@ fn case(
     kind: Kind,
     flat: &[u32],
 ) -> io::Result<()> {
-    write!(out, "{label}")?;
-    say_measured(out, measure(file, kind, flat))?;
-    writeln!(out)
+    writeln!(out, "{label} {}", Measured(measure(file, kind, flat)))
 }
 
-fn plain_case(out: &mut impl Write, label: &str, kind: Kind, flat: &[u32]) -> io::Result<()> {
-    case(out, label, &PLAIN, kind, flat)
-}
-
-fn gapped_case(out: &mut impl Write, label: &str, kind: Kind, flat: &[u32]) -> io::Result<()> {
-    case(out, label, &GAPPED, kind, flat)
-}
-
-fn barred_case(out: &mut impl Write, label: &str, kind: Kind, flat: &[u32]) -> io::Result<()> {
-    write!(out, "barred, ")?;
-    case(out, label, &BARRED, kind, flat)
+// Foldings of one stack, each with its name and with a group, a side and a start row for each component. What all of them are
+// stands before each name.
+fn cases<const N: usize>(
+    out: &mut impl Write,
+    all: &str,
+    file: &[u8],
+    foldings: &[(&str, Kind, [[u32; 3]; N])],
+) -> io::Result<()> {
+    for (label, kind, flat) in foldings {
+        write!(out, "{all}")?;
+        case(out, label, file, *kind, flat.as_flattened())?;
+    }
+    Ok(())
 }
 
 fn range_cases(out: &mut impl Write) -> io::Result<()> {
-    let (apart, nested) = (Kind::Apart, Kind::Nested);
-    for (label, kind, flat) in [
-        ("one group", apart, [0, 0, 7, 0, 0, 6, 0, 0, 4, 0, 0, 0]),
-        ("side 2", nested, [0, 0, 7, 0, 0, 6, 0, 0, 4, 0, 2, 0]),
+    let foldings = [
+        (
+            "one group",
+            Apart,
+            [[0, 0, 7], [0, 0, 6], [0, 0, 4], [0, 0, 0]],
+        ),
+        (
+            "side 2",
+            Nested,
+            [[0, 0, 7], [0, 0, 6], [0, 0, 4], [0, 2, 0]],
+        ),
         (
             "start 1024000",
-            apart,
-            [0, 0, 1024000, 0, 0, 6, 0, 0, 4, 0, 0, 0],
+            Apart,
+            [[0, 0, 1024000], [0, 0, 6], [0, 0, 4], [0, 0, 0]],
         ),
         (
             "start 1024001",
-            apart,
-            [0, 0, 1024001, 0, 0, 6, 0, 0, 4, 0, 0, 0],
+            Apart,
+            [[0, 0, 1024001], [0, 0, 6], [0, 0, 4], [0, 0, 0]],
         ),
         (
             "start 4294967295",
-            apart,
-            [0, 0, 4294967295, 0, 0, 6, 0, 0, 4, 0, 0, 0],
+            Apart,
+            [[0, 0, 4294967295], [0, 0, 6], [0, 0, 4], [0, 0, 0]],
         ),
-    ] {
-        plain_case(out, label, kind, &flat)?;
-    }
-    Ok(())
+    ];
+    cases(out, "", &PLAIN, &foldings)
 }
 
 fn order_cases(out: &mut impl Write) -> io::Result<()> {
-    for (label, flat) in [
-        ("first group 1", [1, 0, 7, 1, 0, 6, 1, 0, 4, 1, 0, 0]),
-        ("group skipped", [0, 0, 1, 0, 0, 0, 2, 0, 4, 2, 0, 0]),
-        ("group again", [0, 0, 0, 1, 0, 0, 0, 0, 0, 1, 0, 0]),
+    let foldings = [
+        (
+            "first group 1",
+            Apart,
+            [[1, 0, 7], [1, 0, 6], [1, 0, 4], [1, 0, 0]],
+        ),
+        (
+            "group skipped",
+            Apart,
+            [[0, 0, 1], [0, 0, 0], [2, 0, 4], [2, 0, 0]],
+        ),
+        (
+            "group again",
+            Apart,
+            [[0, 0, 0], [1, 0, 0], [0, 0, 0], [1, 0, 0]],
+        ),
         (
             "group 4294967295",
-            [0, 0, 0, 4294967295, 0, 0, 0, 0, 0, 1, 0, 0],
+            Apart,
+            [[0, 0, 0], [4294967295, 0, 0], [0, 0, 0], [1, 0, 0]],
         ),
-        ("each its own group", [0, 0, 0, 1, 0, 0, 2, 0, 0, 3, 0, 0]),
-    ] {
-        plain_case(out, label, Kind::Apart, &flat)?;
-    }
-    Ok(())
+        (
+            "each its own group",
+            Apart,
+            [[0, 0, 0], [1, 0, 0], [2, 0, 0], [3, 0, 0]],
+        ),
+    ];
+    cases(out, "", &PLAIN, &foldings)
 }
 
 fn side_cases(out: &mut impl Write) -> io::Result<()> {
-    let (apart, nested) = (Kind::Apart, Kind::Nested);
-    for (label, kind, flat) in [
+    let foldings = [
         (
             "first on the right",
-            nested,
-            [0, 1, 0, 0, 1, 3, 0, 1, 4, 0, 1, 6],
+            Nested,
+            [[0, 1, 0], [0, 1, 3], [0, 1, 4], [0, 1, 6]],
         ),
         (
             "second group on the right",
-            nested,
-            [0, 0, 0, 1, 1, 0, 1, 1, 1, 1, 1, 3],
+            Nested,
+            [[0, 0, 0], [1, 1, 0], [1, 1, 1], [1, 1, 3]],
         ),
         (
             "left after right",
-            nested,
-            [0, 0, 0, 0, 1, 0, 0, 0, 0, 0, 1, 1],
+            Nested,
+            [[0, 0, 0], [0, 1, 0], [0, 0, 0], [0, 1, 1]],
         ),
         (
             "right in nested",
-            nested,
-            [0, 0, 1, 0, 0, 0, 0, 1, 0, 0, 1, 2],
+            Nested,
+            [[0, 0, 1], [0, 0, 0], [0, 1, 0], [0, 1, 2]],
         ),
         (
             "right in apart",
-            apart,
-            [0, 0, 1, 0, 0, 0, 0, 1, 0, 0, 1, 2],
+            Apart,
+            [[0, 0, 1], [0, 0, 0], [0, 1, 0], [0, 1, 2]],
         ),
-    ] {
-        plain_case(out, label, kind, &flat)?;
-    }
-    Ok(())
+    ];
+    cases(out, "", &PLAIN, &foldings)
 }
 
 fn start_cases(out: &mut impl Write) -> io::Result<()> {
-    let (apart, nested) = (Kind::Apart, Kind::Nested);
-    for (label, kind, flat) in [
-        ("left touching", apart, [0, 0, 1, 0, 0, 0, 1, 0, 4, 1, 0, 0]),
+    let foldings = [
+        (
+            "left touching",
+            Apart,
+            [[0, 0, 1], [0, 0, 0], [1, 0, 4], [1, 0, 0]],
+        ),
         (
             "left overlapping",
-            apart,
-            [0, 0, 0, 0, 0, 0, 1, 0, 4, 1, 0, 0],
+            Apart,
+            [[0, 0, 0], [0, 0, 0], [1, 0, 4], [1, 0, 0]],
         ),
         (
             "left with empty rows",
-            apart,
-            [0, 0, 9, 0, 0, 2, 1, 0, 20, 1, 0, 3],
+            Apart,
+            [[0, 0, 9], [0, 0, 2], [1, 0, 20], [1, 0, 3]],
         ),
         (
             "right overlapping",
-            nested,
-            [0, 0, 1, 0, 0, 0, 0, 1, 0, 0, 1, 1],
+            Nested,
+            [[0, 0, 1], [0, 0, 0], [0, 1, 0], [0, 1, 1]],
         ),
         (
             "right with empty rows",
-            nested,
-            [0, 0, 1, 0, 0, 0, 0, 1, 5, 0, 1, 9],
+            Nested,
+            [[0, 0, 1], [0, 0, 0], [0, 1, 5], [0, 1, 9]],
         ),
-    ] {
-        plain_case(out, label, kind, &flat)?;
-    }
-    Ok(())
+    ];
+    cases(out, "", &PLAIN, &foldings)
 }
 
-// What gaps add: g0 and g1 without a fold, the larger of them and the fold's gap with one.
+// What gaps add to a group's height: without a fold the gap before it and the one after it, with a fold the larger of the two
+// and the gap at the fold.
 fn gap_cases(out: &mut impl Write) -> io::Result<()> {
-    let (apart, nested) = (Kind::Apart, Kind::Nested);
-    for (label, kind, flat) in [
-        ("no fold", apart, [0, 0, 4, 0, 0, 1, 0, 0, 0]),
-        ("three groups", apart, [0, 0, 0, 1, 0, 0, 2, 0, 0]),
-        ("fold after the first", nested, [0, 0, 0, 0, 1, 0, 0, 1, 3]),
-        ("fold after the second", nested, [0, 0, 3, 0, 0, 0, 0, 1, 0]),
+    let foldings = [
+        ("no fold", Apart, [[0, 0, 4], [0, 0, 1], [0, 0, 0]]),
+        ("three groups", Apart, [[0, 0, 0], [1, 0, 0], [2, 0, 0]]),
+        (
+            "fold after the first",
+            Nested,
+            [[0, 0, 0], [0, 1, 0], [0, 1, 3]],
+        ),
+        (
+            "fold after the second",
+            Nested,
+            [[0, 0, 3], [0, 0, 0], [0, 1, 0]],
+        ),
         (
             "fold in the second group",
-            nested,
-            [0, 0, 0, 1, 0, 0, 1, 1, 0],
+            Nested,
+            [[0, 0, 0], [1, 0, 0], [1, 1, 0]],
         ),
         (
             "sides above each other",
-            nested,
-            [0, 0, 0, 0, 1, 2, 0, 1, 5],
+            Nested,
+            [[0, 0, 0], [0, 1, 2], [0, 1, 5]],
         ),
-    ] {
-        gapped_case(out, label, kind, &flat)?;
-    }
-    Ok(())
+    ];
+    cases(out, "", &GAPPED, &foldings)
 }
 
 // Each way to part a barred component from its successor.
 fn parted_cases(out: &mut impl Write) -> io::Result<()> {
-    let (apart, nested) = (Kind::Apart, Kind::Nested);
-    for (label, kind, flat) in [
-        ("two groups", apart, [0, 0, 1, 0, 0, 0, 1, 0, 4, 1, 0, 0]),
+    let foldings = [
+        (
+            "two groups",
+            Apart,
+            [[0, 0, 1], [0, 0, 0], [1, 0, 4], [1, 0, 0]],
+        ),
         (
             "two groups in nested",
-            nested,
-            [0, 0, 0, 0, 1, 0, 1, 0, 4, 1, 0, 0],
+            Nested,
+            [[0, 0, 0], [0, 1, 0], [1, 0, 4], [1, 0, 0]],
         ),
-        ("two sides", nested, [0, 0, 1, 0, 0, 0, 0, 1, 0, 0, 1, 2]),
+        (
+            "two sides",
+            Nested,
+            [[0, 0, 1], [0, 0, 0], [0, 1, 0], [0, 1, 2]],
+        ),
         (
             "two sides of the second group",
-            nested,
-            [0, 0, 0, 1, 0, 0, 1, 1, 0, 1, 1, 2],
+            Nested,
+            [[0, 0, 0], [1, 0, 0], [1, 1, 0], [1, 1, 2]],
         ),
-    ] {
-        barred_case(out, label, kind, &flat)?;
-    }
-    Ok(())
+    ];
+    cases(out, "barred, ", &BARRED, &foldings)
 }
 
 // The two together, with empty rows between them, and with groups and folds around them. Their gap counts for nothing.
 fn unparted_cases(out: &mut impl Write) -> io::Result<()> {
-    let (apart, nested) = (Kind::Apart, Kind::Nested);
-    for (label, kind, flat) in [
+    let foldings = [
         (
             "empty rows on the left",
-            apart,
-            [0, 0, 9, 0, 0, 8, 0, 0, 4, 1, 0, 0],
+            Apart,
+            [[0, 0, 9], [0, 0, 8], [0, 0, 4], [1, 0, 0]],
         ),
         (
             "empty rows on the right",
-            nested,
-            [0, 0, 0, 0, 1, 0, 0, 1, 4, 0, 1, 6],
+            Nested,
+            [[0, 0, 0], [0, 1, 0], [0, 1, 4], [0, 1, 6]],
         ),
         (
             "a group of their own",
-            apart,
-            [0, 0, 0, 1, 0, 2, 1, 0, 0, 2, 0, 0],
+            Apart,
+            [[0, 0, 0], [1, 0, 2], [1, 0, 0], [2, 0, 0]],
         ),
         (
             "a fold before",
-            nested,
-            [0, 0, 0, 0, 1, 0, 0, 1, 1, 1, 0, 0],
+            Nested,
+            [[0, 0, 0], [0, 1, 0], [0, 1, 1], [1, 0, 0]],
         ),
         (
             "a fold behind",
-            nested,
-            [0, 0, 3, 0, 0, 2, 0, 0, 0, 0, 1, 0],
+            Nested,
+            [[0, 0, 3], [0, 0, 2], [0, 0, 0], [0, 1, 0]],
         ),
-    ] {
-        barred_case(out, label, kind, &flat)?;
-    }
-    Ok(())
+    ];
+    cases(out, "barred, ", &BARRED, &foldings)
 }
 
 // The writer's own answer is another program's case.
 fn written_case(out: &mut impl Write) -> io::Result<()> {
     let mut file = [0u8; 39];
-    let _ = stack_write::write(
-        &[3, 1, 2, 4],
-        &[1; 4],
-        &[0, 9, 0, 0],
-        &[0, 1, 0, 0],
-        &mut file,
-    );
+    let (heights, widths) = (&[3, 1, 2, 4], &[1; 4]);
+    let _ = stack_write::write(heights, widths, &[0, 9, 0, 0], &[0, 1, 0, 0], &mut file);
     let flat = [0, 0, 1, 0, 0, 0, 1, 0, 4, 1, 0, 0];
-    case(out, "barred, as written", &file, Kind::Apart, &flat)
+    case(out, "barred, as written", &file, Apart, &flat)
 }
 
 fn length_cases(out: &mut impl Write) -> io::Result<()> {
     let flat = [0, 0, 4, 0, 0, 1, 0, 0, 0, 9, 9, 9, 9];
-    gapped_case(out, "an incomplete placement", Kind::Apart, &flat[..8])?;
-    gapped_case(out, "more numbers", Kind::Apart, &flat)?;
-    gapped_case(out, "no numbers", Kind::Apart, &[])
+    case(out, "an incomplete placement", &GAPPED, Apart, &flat[..8])?;
+    case(out, "more numbers", &GAPPED, Apart, &flat)?;
+    case(out, "no numbers", &GAPPED, Apart, &[])
 }
 
 // A stack of n components, all numbers of which are 1 but the gaps, each in a group of its own.
@@ -288,24 +316,24 @@ fn ones_case(out: &mut impl Write, label: &str, n: usize, kind: Kind) -> io::Res
         label,
         &file[..7 + 8 * n],
         kind,
-        &flat.as_flattened()[..3 * n],
+        flat[..n].as_flattened(),
     )
 }
 
 // The most components that a kind takes, and one more.
 fn size_cases(out: &mut impl Write) -> io::Result<()> {
-    ones_case(out, "64 nested", 64, Kind::Nested)?;
-    ones_case(out, "65 nested", 65, Kind::Nested)?;
-    ones_case(out, "65 apart", 65, Kind::Apart)?;
-    ones_case(out, "256 apart", 256, Kind::Apart)?;
-    ones_case(out, "256 nested", 256, Kind::Nested)
+    ones_case(out, "64 nested", 64, Nested)?;
+    ones_case(out, "65 nested", 65, Nested)?;
+    ones_case(out, "65 apart", 65, Apart)?;
+    ones_case(out, "256 apart", 256, Apart)?;
+    ones_case(out, "256 nested", 256, Nested)
 }
 
 // The size is refused before a component is looked at.
 fn too_many(out: &mut impl Write) -> io::Result<()> {
     let mut file = [0u8; 1549];
     file[..7].copy_from_slice(b"STK\x01\0\x01\x01");
-    case(out, "257 apart", &file, Kind::Apart, &[])
+    case(out, "257 apart", &file, Apart, &[])
 }
 
 fn choose_case<'a>(
@@ -316,7 +344,7 @@ fn choose_case<'a>(
     second: &'a [u32],
 ) -> io::Result<()> {
     write!(out, "{label}")?;
-    for x in choose(file, Kind::Apart, first, second) {
+    for x in choose(file, Apart, first, second) {
         write!(out, " {x}")?;
     }
     writeln!(out)
@@ -372,8 +400,7 @@ fn lend(file: &[u8], kind: Kind, run: [Placement; 3]) -> Result<Outline, Refusal
     folding_structs::measure_placements(file, kind, &run)
 }
 
-// The same folding, a group, a side and a start row for each component, through the entry that takes placements and through
-// the flat one.
+// The same folding through the entry that takes placements and through the flat one.
 fn structs_case(
     out: &mut impl Write,
     label: &str,
@@ -381,77 +408,79 @@ fn structs_case(
     kind: Kind,
     flat: [[u32; 3]; 3],
 ) -> io::Result<()> {
-    let run = flat.map(|[group, side, start]| Placement { group, side, start });
-    write!(out, "structs, {label}")?;
-    say_measured(out, lend(file, kind, run))?;
+    let run = flat.map(Placement::from);
+    write!(out, "structs, {label} {}", Measured(lend(file, kind, run)))?;
     case(out, ",", file, kind, flat.as_flattened())
 }
 
-fn legal_structs(out: &mut impl Write) -> io::Result<()> {
-    let (apart, nested) = (Kind::Apart, Kind::Nested);
-    for (label, kind, flat) in [
-        ("one group", apart, [[0, 0, 4], [0, 0, 1], [0, 0, 0]]),
-        ("three groups", apart, [[0, 0, 0], [1, 0, 0], [2, 0, 0]]),
-        ("fold after 1", nested, [[0, 0, 0], [0, 1, 0], [0, 1, 3]]),
-        ("fold in group 1", nested, [[0, 0, 0], [1, 0, 0], [1, 1, 0]]),
-    ] {
-        structs_case(out, label, &GAPPED, kind, flat)?;
+fn structs_cases(
+    out: &mut impl Write,
+    file: &[u8],
+    foldings: &[(&str, Kind, [[u32; 3]; 3])],
+) -> io::Result<()> {
+    for (label, kind, flat) in foldings {
+        structs_case(out, label, file, *kind, *flat)?;
     }
     Ok(())
 }
 
+fn legal_structs(out: &mut impl Write) -> io::Result<()> {
+    let foldings = [
+        ("one group", Apart, [[0, 0, 4], [0, 0, 1], [0, 0, 0]]),
+        ("three groups", Apart, [[0, 0, 0], [1, 0, 0], [2, 0, 0]]),
+        ("fold after 1", Nested, [[0, 0, 0], [0, 1, 0], [0, 1, 3]]),
+        ("fold in group 1", Nested, [[0, 0, 0], [1, 0, 0], [1, 1, 0]]),
+    ];
+    structs_cases(out, &GAPPED, &foldings)
+}
+
 fn refused_structs(out: &mut impl Write) -> io::Result<()> {
-    let (apart, nested) = (Kind::Apart, Kind::Nested);
-    for (label, kind, flat) in [
-        ("right side", apart, [[0, 0, 0], [0, 1, 0], [0, 1, 3]]),
-        ("overlap", apart, [[0, 0, 3], [0, 0, 1], [0, 0, 0]]),
+    let foldings = [
+        ("right side", Apart, [[0, 0, 0], [0, 1, 0], [0, 1, 3]]),
+        ("overlap", Apart, [[0, 0, 3], [0, 0, 1], [0, 0, 0]]),
         (
             "side 4294967295",
-            nested,
+            Nested,
             [[0, 0, 4], [0, 0, 1], [0, 4294967295, 0]],
         ),
-    ] {
-        structs_case(out, label, &GAPPED, kind, flat)?;
-    }
+    ];
+    structs_cases(out, &GAPPED, &foldings)?;
     let flat = [[0, 0, 4], [0, 0, 1], [0, 0, 0]];
-    structs_case(out, "letters", b"STAK123", Kind::Apart, flat)
+    structs_case(out, "letters", b"STAK123", Apart, flat)
 }
 
 fn barred_structs(out: &mut impl Write) -> io::Result<()> {
-    let (apart, nested) = (Kind::Apart, Kind::Nested);
-    for (label, kind, flat) in [
+    let foldings = [
         (
             "barred, two groups",
-            apart,
+            Apart,
             [[0, 0, 0], [1, 0, 1], [1, 0, 0]],
         ),
         (
             "barred, two sides",
-            nested,
+            Nested,
             [[0, 0, 0], [0, 1, 0], [0, 1, 3]],
         ),
         (
             "barred, empty rows",
-            apart,
+            Apart,
             [[0, 0, 9], [0, 0, 1], [0, 0, 0]],
         ),
         (
             "barred, a fold behind",
-            nested,
+            Nested,
             [[0, 0, 3], [0, 0, 0], [0, 1, 0]],
         ),
-    ] {
-        structs_case(out, label, &BARRED_GAPPED, kind, flat)?;
-    }
-    Ok(())
+    ];
+    structs_cases(out, &BARRED_GAPPED, &foldings)
 }
 
 // As many placements as components are asked for, and no more are read.
 fn count_structs(out: &mut impl Write) -> io::Result<()> {
     let groups = [[0, 0, 0], [1, 0, 0], [2, 0, 0]];
     let spare = [[0, 0, 3], [0, 0, 0], [7, 7, 7]];
-    structs_case(out, "four components", &PLAIN, Kind::Apart, groups)?;
-    structs_case(out, "two components", &SHORT, Kind::Apart, spare)
+    structs_case(out, "four components", &PLAIN, Apart, groups)?;
+    structs_case(out, "two components", &SHORT, Apart, spare)
 }
 
 fn main(rt: HostRuntime) -> io::Result<()> {

@@ -2,7 +2,8 @@
 use mathlib.Core.Path.{◌≡◌, refl, sym, ◌∙◌, ap}
 use Prim.Native.Nat.{ℕ, zero, suc, ◌+◌, ◌*◌, ◌/◌, ◌≤◌, ◌<◌, min}
 use native.Mathlib.Omega.{arith}
-use mathlib.Core.List.{List, [], ◌∷◌}
+use mathlib.Core.List.{List, [], ◌∷◌, map}
+use Rattle.std.specs.List.{flat_map}
 use mathlib.Core.Bool.{false}
 use mathlib.Core.Logic.{◌⊎◌, inl, inr}
 use lib.ListN.{length, take, get_or}
@@ -18,10 +19,10 @@ use Rattle.terms.proofs.Tabulate.{tabulate_same}
 use Rattle.stack.specs.File.{check_of}
 use Rattle.stack.proofs.Valid.{valid}
 use Rattle.folding.specs.declared.Placement.{Placement}
-use Rattle.folding.specs.Placement.{placement_at, placements_of, flat_of}
+use Rattle.folding.specs.Placement.{placement_at, placements_of, flat_of, numbers_of, none}
 use Rattle.folding.specs.Calls.{measure_in, measure_of}
 use Rattle.folding.proofs.Flat.{flat-length}
-use Rattle.folding_structs.proofs.Lists.{none}
+use Rattle.folding_structs.proofs.Lists.{flat_by_three}
 
 -- The placement at i of the flat numbers is that of the slice.
 flat_at : (ps : List Placement) (i : ℕ) → i < length ps → placement_at (flat_of ps) i ≡ get_or ps i none
@@ -70,3 +71,9 @@ module _ (kind : Kind) (file : List ℕ) (ps : List Placement) where
       let k : take (3 * n) xs ≡ flat_of (take (min (length ps) 256) ps) =
       ap (λ (j : ℕ). take (3 * j) xs) (sym e) ∙ h ∙ ap (λ (j : ℕ). flat_of (take j ps)) (e ∙ m) in
       ap (λ (us : List ℕ). measure_of kind file us) k ∙ first_enough
+
+  -- They stand in rows, three by three.
+  pub rows_read : (n : ℕ) (rows : List (List ℕ)) → n ≡ min (length ps) 256 → take n rows ≡ map numbers_of (take n ps)
+      → measure_of kind file (flat_map (λ x. x) (take n rows)) ≡ measure_of kind file (flat_of ps)
+  rows_read n rows m h =
+      rw (h, flat_by_three (take n ps), m) first_enough

@@ -1,20 +1,30 @@
 -- The flat numbers, placement after placement.
-use mathlib.Core.Path.{◌≡◌, sym, ◌∙◌, ap}
+use mathlib.Core.Path.{◌≡◌, refl, sym, ◌∙◌, ap}
 use Prim.Native.Nat.{ℕ, suc, ◌+◌, ◌*◌, ◌<◌}
 use native.Mathlib.Omega.{arith}
-use mathlib.Core.List.{List, [], ◌∷◌, ◌++◌}
-use lib.ListN.{length, take, get_or}
+use mathlib.Core.List.{List, [], ◌∷◌, ◌++◌, map}
+use Rattle.std.specs.List.{flat_map}
+use Rattle.std.proofs.lemmas.List.{take_more_set, map-append}
+use lib.ListN.{length, take, get_or, set}
 use lib.Seq.{take-suc}
 use Rattle.folding.specs.declared.Placement.{Placement}
-use Rattle.folding.specs.Placement.{flat_of}
+use Rattle.folding.specs.Placement.{flat_of, numbers_of, none}
 use Rattle.folding.proofs.Flat.{flat_append}
 
--- Where an entry is asked for past the end of a list.
-abbrev pub none : Placement
-none = record { group = 0; side = 0; start = 0 }
+-- Three by three they are the numbers of each placement.
+pub flat_by_three : (ps : List Placement) → flat_map (λ x. x) (map numbers_of ps) ≡ flat_of ps
+flat_by_three [] = refl
+flat_by_three (p ∷ ps) = ap (λ (l : List ℕ). p.group ∷ p.side ∷ p.start ∷ l) (flat_by_three ps)
+
+-- The numbers of one placement more.
+pub row_more : (ps : List Placement) (rows : List (List ℕ)) (i : ℕ) → i < length rows → i < length ps → take i rows ≡ map numbers_of (take i ps)
+    → take (i + 1) (set rows i (numbers_of (get_or ps i none))) ≡ map numbers_of (take (i + 1) ps)
+row_more ps rows i h k e =
+    let z : i + 1 ≡ suc i = omega arith in
+    rw (take_more_set rows i (numbers_of (get_or ps i none)) h, e, z, take-suc ps i none k, map-append)
 
 -- One placement more.
-pub flat_next : (ps : List Placement) (i : ℕ) → i < length ps → flat_of (take (i + 1) ps) ≡ flat_of (take i ps) ++ ((get_or ps i none).group ∷ (get_or ps i none).side ∷ (get_or ps i none).start ∷ [])
+flat_next : (ps : List Placement) (i : ℕ) → i < length ps → flat_of (take (i + 1) ps) ≡ flat_of (take i ps) ++ ((get_or ps i none).group ∷ (get_or ps i none).side ∷ (get_or ps i none).start ∷ [])
 flat_next ps i h = let e : i + 1 ≡ suc i = omega arith in
     ap (λ (k : ℕ). flat_of (take k ps)) e ∙ ap flat_of (take-suc ps i none h) ∙ flat_append (take i ps) (get_or ps i none ∷ [])
 

@@ -11,19 +11,27 @@ const PAIRS: usize = 2048;
 // As many bytes of standard input as are read.
 const MOST_READ: u64 = 4096;
 
-fn say_pairs(out: &mut impl Write, letter: char, pairs: &[[u32; 2]]) -> io::Result<()> {
+// The letter that a kind's lines begin with.
+fn letter(kind: Kind) -> char {
+    match kind {
+        Kind::Apart => 'A',
+        Kind::Nested => 'N',
+    }
+}
+
+fn say_pairs(out: &mut impl Write, kind: Kind, pairs: &[[u32; 2]]) -> io::Result<()> {
     for [width, height] in pairs {
-        writeln!(out, "{letter} {width} {height}")?;
+        writeln!(out, "{} {width} {height}", letter(kind))?;
     }
     Ok(())
 }
 
-fn say_table(out: &mut impl Write, letter: char, file: &[u8], kind: Kind) -> io::Result<()> {
-    let mut pairs = [0u32; 2 * PAIRS];
+fn say_table(out: &mut impl Write, file: &[u8], kind: Kind) -> io::Result<()> {
+    let mut pairs = [[0u32; 2]; PAIRS];
     let mut work = [0u32; LEAST_WORK];
-    match fold_table::table(file, kind, &mut pairs, &mut work) {
-        Ok(n) => say_pairs(out, letter, pairs[..2 * n].as_chunks::<2>().0),
-        Err(k) => writeln!(out, "{letter} R {}", k.number()),
+    match fold_table::table(file, kind, pairs.as_flattened_mut(), &mut work) {
+        Ok(n) => say_pairs(out, kind, &pairs[..n]),
+        Err(k) => writeln!(out, "{} R {}", letter(kind), k.number()),
     }
 }
 
@@ -33,7 +41,7 @@ pub fn run(rt: &(impl Input + Print + Alloc)) -> io::Result<()> {
     let mut file = Vec::new(rt.alloc());
     rt.reader().take(MOST_READ).read_to_end(&mut file)?;
     let mut out = BufWriter::new(rt.alloc(), io::writer(rt))?;
-    say_table(&mut out, 'A', &file, Kind::Apart)?;
-    say_table(&mut out, 'N', &file, Kind::Nested)?;
+    say_table(&mut out, &file, Kind::Apart)?;
+    say_table(&mut out, &file, Kind::Nested)?;
     out.flush()
 }

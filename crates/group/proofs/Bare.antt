@@ -1,16 +1,17 @@
 -- Gaps and marks of components do not matter to rows and start rows.
-use Prim.Native.Nat.{ℕ, zero, suc, ◌+◌, ◌≤◌, ◌<◌, min}
+use Prim.Native.Nat.{ℕ, ◌+◌, ◌≤◌, ◌<◌, min}
 use mathlib.Core.Path.{◌≡◌, refl, sym, ap, ◌∙◌}
 use mathlib.Core.Logic.{◌⊎◌, inl, inr}
-use mathlib.Core.List.{List, [], ◌∷◌, ◌++◌, map, reverse_aux}
-use lib.ListN.{length, take, drop}
+use mathlib.Core.List.{List, [], ◌∷◌, map, reverse_aux}
+use lib.ListN.{length, take}
+use Rattle.std.specs.List.{take-map, drop-map}
 use Rattle.terms.specs.declared.Component.{Component}
-use Rattle.terms.specs.Component.{tabulate}
 use Rattle.terms.specs.Seams.{component_in, components_in}
 use Rattle.group.specs.Rows.{ht, wd, tall, rows, Starts, packed, put_left, put_right, place}
 use Rattle.group.specs.Group.{left_side, right_side, group_places}
 use Rattle.group.specs.Table.{bare}
 use Rattle.terms.proofs.Order.{order}
+use Rattle.terms.proofs.Tabulate.{tabulate-map}
 use Rattle.group.proofs.Chains.{rows_left, rows_right, rows_clash, place_left, place_right, place_left_first, place_right_first}
 
 abbrev pub gapless : Component → Component
@@ -79,37 +80,18 @@ place_gapless cap (x ∷ l) [] a b = ap (λ (k : List ℕ). record { on_the_left
 place_gapless cap (x ∷ l) (y ∷ r) a b =
     place_step cap x l y r (rows_gapless cap l (y ∷ r)) (rows_gapless cap (x ∷ l) r) (place_gapless cap l (y ∷ r)) (place_gapless cap (x ∷ l) r) a b
 
-map_snoc : (l : List Component) (x : Component) → map gapless (l ++ (x ∷ [])) ≡ map gapless l ++ (gapless x ∷ [])
-map_snoc [] x = refl
-map_snoc (y ∷ l) x = ap (λ (k : List Component). gapless y ∷ k) (map_snoc l x)
-
-map-tabulate : (g : ℕ → Component) (n : ℕ) → map gapless (tabulate g n) ≡ tabulate (λ i. gapless (g i)) n
-unfolding tabulate
-map-tabulate g zero = refl
-map-tabulate g (suc n) = map_snoc (tabulate g n) (g n) ∙ ap (λ (l : List Component). l ++ (gapless (g n) ∷ [])) (map-tabulate g n)
-
 pub bare_is : (hs ws gs : List ℕ) → bare hs ws ≡ map gapless (components_in hs ws gs)
-bare_is hs ws gs = sym (map-tabulate (component_in hs ws gs) (length hs))
-
-map-take : (p : ℕ) (l : List Component) → map gapless (take p l) ≡ take p (map gapless l)
-map-take zero l = refl
-map-take (suc p) [] = refl
-map-take (suc p) (x ∷ l) = ap (λ (k : List Component). gapless x ∷ k) (map-take p l)
-
-map-drop : (p : ℕ) (l : List Component) → map gapless (drop p l) ≡ drop p (map gapless l)
-map-drop zero l = refl
-map-drop (suc p) [] = refl
-map-drop (suc p) (x ∷ l) = map-drop p l
+bare_is hs ws gs = sym (tabulate-map gapless (component_in hs ws gs) (length hs))
 
 map-reverse : (l r : List Component) → map gapless (reverse_aux l r) ≡ reverse_aux (map gapless l) (map gapless r)
 map-reverse [] r = refl
 map-reverse (x ∷ l) r = map-reverse l (x ∷ r)
 
 pub left_gapless : (p : ℕ) (cs : List Component) → left_side p (map gapless cs) ≡ map gapless (left_side p cs)
-left_gapless p cs = rw (← map-take p cs) (sym (map-reverse (take p cs) []))
+left_gapless p cs = rw (take-map gapless p cs) (sym (map-reverse (take p cs) []))
 
 pub right_gapless : (p : ℕ) (cs : List Component) → right_side p (map gapless cs) ≡ map gapless (right_side p cs)
-right_gapless p cs = sym (map-drop p cs)
+right_gapless p cs = drop-map gapless p cs
 
 pub places_gapless : (cap m p : ℕ) (cs : List Component) → group_places cap (map gapless cs) m p ≡ group_places cap cs m p
 unfolding group_places

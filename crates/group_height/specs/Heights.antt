@@ -5,10 +5,10 @@ use Rattle.terms.specs.Seams.{gap_at, barred_at, components_in}
 use Rattle.group.specs.Group.{none, unbarred}
 use Rattle.group_table.specs.Table.{Asks}
 
--- The rows that a fold behind the first p components adds to those of its sides, where `both` is the larger of the gaps before
+-- The rows that a fold behind the first p components adds to those of its sides, where `outer` is the larger of the gaps before
 -- and behind the group: more than every limit where the fold is barred.
 abbrev pub fold_rows : ℕ → List ℕ → ℕ → ℕ
-fold_rows both gs p = cond (barred_at gs (p - 1)) none (both + gap_at gs (p - 1))
+fold_rows outer gs p = cond (barred_at gs (p - 1)) none (outer + gap_at gs (p - 1))
 
 -- The columns of a group behind the gap g0, which may end where it ends, and room for its table.
 pub record HeightAsks (g0 : ℕ) (hs ws gs es : List ℕ) : Type 0 where

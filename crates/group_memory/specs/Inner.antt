@@ -1,26 +1,24 @@
 -- What the functions inside this crate promise each other. Nothing here is part of a public promise.
-use Rattle.std.specs.Prelude.{ℕ, ◌≤◌, ◌<◌, min, ◌≡◌, List, length}
-use Rattle.numbers.specs.Table.{cells}
-use Rattle.group.specs.Group.{none}
-use Rattle.group_search.specs.Widths.{LowAsks}
-use Rattle.group_memory.specs.Memory.{widths, word_width, word_height, unknown, never}
+use Rattle.std.specs.Prelude.{ℕ, ◌≤◌, ◌<◌, ◌≡◌, Some, Result, Ok, Err}
+use Rattle.std.specs.Result.{result_ok}
+use Rattle.terms.specs.declared.Slices.{Slices}
+use Rattle.folding.specs.declared.Outline.{Outline}
+use Rattle.model.specs.Outlines.{outline}
+use Rattle.group_search.specs.Widths.{bound_in}
+use Rattle.group_memory.specs.Memory.{widths, word_width, word_height, unknown}
 
 -- What a search found fits into a word.
-abbrev pub Small : ℕ → ℕ → Type 0
-Small width height = width < none → (width < widths) × (height < unknown)
+abbrev pub Small : Result Outline Slices → Type 0
+Small (Ok o) = (o.width.0 < widths) × (o.height.0 < unknown)
+Small (Err least) = Unit {0}
 
--- The word for what a search found: the width and the height, or a width below which no cap will do.
-pub record Noted (width height least word : ℕ) : Type 0 where
-  pub met : width < none → (word_width word ≡ width) × (word_height word ≡ height)
-  pub missed : none ≤ width → (word_width word ≡ min least never) × (word_height word ≡ unknown)
+-- A bound has no height.
+abbrev pub height_in : Result Outline Slices → ℕ
+height_in (Ok o) = o.height.0
+height_in (Err least) = unknown
 
--- The width and the height if they are within the cap.
-pub record Recalled (width height cap width' height' : ℕ) : Type 0 where
-  pub met : width ≤ cap → (width' ≡ width) × (height' ≡ height)
-  pub missed : cap < width → width' ≡ none
-
--- A search, and room for a word behind its table.
-pub record SearchAsks (g0 flat : ℕ) (hs ws gs work : List ℕ) (at limit wide low cap : ℕ) : Type 0 where
-  pub asks : LowAsks g0 flat hs ws gs work limit wide low cap
-  pub behind : cells ≤ at
-  pub within : at < length work
+-- What a word says for a limit: its width, and its height if that is known and keeps the limit.
+pub record Recalled (word limit : ℕ) (r : Result Outline Slices) : Type 0 where
+  pub width_is : bound_in r ≡ word_width word
+  pub height_is : (o : Outline) → r ≡ Ok o → (o.height.0 ≡ word_height word) × (o.height.0 < unknown) × (o.height.0 ≤ limit)
+  pub found_is : word_height word < unknown → word_height word ≤ limit → result_ok r ≡ Some (outline (word_width word) (word_height word))

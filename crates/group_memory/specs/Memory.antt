@@ -1,8 +1,7 @@
 -- What is known of one group from earlier searches, in one number of 32 bits: a word.
-use Rattle.std.specs.Prelude.{ℕ, ◌/◌, ◌%◌, ◌≤◌, ◌<◌, ◌≡◌, ◌≢◌, List, length, get_or}
+use Rattle.std.specs.Prelude.{ℕ, ◌/◌, ◌%◌, ◌≤◌, ◌<◌, ◌≡◌, List}
 use Rattle.terms.specs.declared.Kind.TheVariants.{Nested}
 use Rattle.terms.specs.Seams.{components_in}
-use Rattle.numbers.specs.Table.{cells}
 use Rattle.group.specs.Group.{flat_height, least_height}
 use Rattle.group_search.specs.Widths.{WidthAsks, Over}
 
@@ -32,15 +31,8 @@ pub record Holds (g0 : ℕ) (hs ws gs : List ℕ) (limit wide word : ℕ) : Type
   pub least : word_height word < unknown
       → (wide ≤ word_width word) × (word_height word ≡ least_height Nested g0 (components_in hs ws gs) (word_width word))
 
--- The word of a group stands behind the table of the search.
-pub record MemoryAsks (g0 flat : ℕ) (hs ws gs work : List ℕ) (at limit wide cap : ℕ) : Type 0 where
-  pub asks : WidthAsks g0 hs ws gs work limit wide cap
+-- The table of the search, and the word of the group.
+pub record MemoryAsks (g0 flat : ℕ) (hs ws gs es : List ℕ) (word limit wide cap : ℕ) : Type 0 where
+  pub asks : WidthAsks g0 hs ws gs es limit wide cap
   pub is_flat : flat ≡ flat_height g0 (components_in hs ws gs)
-  pub behind : cells ≤ at
-  pub within : at < length work
-  pub holds : Holds g0 hs ws gs limit wide (get_or work at 0)
-
--- It still holds, and the words of other groups are as they were.
-pub record Remembered (g0 : ℕ) (hs ws gs old new : List ℕ) (at limit wide : ℕ) : Type 0 where
-  pub holds : Holds g0 hs ws gs limit wide (get_or new at 0)
-  pub others : (k : ℕ) → cells ≤ k → k ≢ at → get_or new k 0 ≡ get_or old k 0
+  pub holds : Holds g0 hs ws gs limit wide word

@@ -1,11 +1,12 @@
 -- Halving with searches finds the least width at which a group is within a limit: a success goes down to `fit`, a failure up to
 -- `clash`.
-use Prim.Native.Nat.{ℕ, zero, suc, ◌≤◌, ◌<◌, min, max}
-use mathlib.Core.Path.{◌≡◌, refl, sym, ◌∙◌}
+use Prim.Native.Nat.{ℕ, zero, suc, ◌≤◌, ◌<◌, max}
+use mathlib.Core.Path.{◌≡◌, refl, ◌∙◌}
 use mathlib.Core.Logic.{◌⊎◌, inl, inr, ⊎_elim}
 use mathlib.Core.List.{List, [], ◌∷◌, ◌++◌}
 use native.Mathlib.Omega.{arith}
 use lib.ListN.{length}
+use Rattle.std.specs.Prelude.{Some, None}
 use Rattle.terms.specs.declared.Component.{Component}
 use Rattle.terms.specs.declared.Kind.TheVariants.{Nested}
 use Rattle.terms.specs.Component.{tabulate}
@@ -13,13 +14,13 @@ use Rattle.terms.specs.Seams.{component_in, components_in}
 use Rattle.terms.proofs.Order.{order}
 use Rattle.terms.proofs.Tabulate.{tabulate-length}
 use Rattle.group.specs.Rows.{wd}
-use Rattle.group.specs.Group.{none, widest, may_stand, least_height, least_width}
+use Rattle.group.specs.Group.{widest, may_stand, least_height, least_width}
 use Rattle.group.proofs.Ways.{width_is, height_some}
 use Rattle.group.proofs.Falls.{falls}
 use Rattle.group.proofs.First.{first_is}
 use Rattle.group.proofs.Exact.{least_keeps}
-use Rattle.group_search.specs.declared.Run.{Run}
-use Rattle.group_search.specs.Inner.{Bordered, SearchAsks, Searched, FirstCap}
+use Rattle.group_search.specs.Inner.{Bordered, SearchAsks, Missed, FirstCap}
+use Rattle.model.specs.Outlines.{outline}
 use Rattle.group_search.specs.Widths.{Over, LowAsks, Narrow}
 use Rattle.group_search.proofs.Searching.{least_flat}
 
@@ -44,13 +45,6 @@ pub record Halving (g0 : ℕ) (hs ws gs es : List ℕ) (limit low cap lo hi v : 
   pub within : v ≤ limit
   pub over : Over g0 hs ws gs limit low lo
 
--- A search that fails at a cap shows that all caps below `clash` are too narrow.
-above : {g0 : ℕ} {hs ws gs : List ℕ} {limit mid : ℕ} {run : Run} → Searched g0 hs ws gs limit mid run → limit < run.height.0 → (c : ℕ) → c < run.clash.0 → limit < least_height Nested g0 (components_in hs ws gs) c
-above {g0} {hs} {ws} {gs} {limit} {mid} s o c k = ⊎_elim
-    (λ (n : c ≤ mid). omega (arith, falls (may_stand Nested) g0 (components_in hs ws gs) c mid n, s.least mid s.fits s.clashes))
-    (λ (n : mid < c). omega (arith, s.least c (omega (arith, s.fits)) k))
-    (order c mid)
-
 module _ {g0 flat : ℕ} {hs ws gs es : List ℕ} {limit wide low cap : ℕ} (r : LowAsks g0 flat hs ws gs es limit wide low cap) where
   abbrev cs : List Component
   cs = components_in hs ws gs
@@ -58,53 +52,42 @@ module _ {g0 flat : ℕ} {hs ws gs es : List ℕ} {limit wide low cap : ℕ} (r 
   pub cap_low : cap ≤ 8000
   cap_low = omega (arith, r.asks.to, r.asks.is_widest, widest_le (component_in hs ws gs) (length hs) r.asks.asks.table.columns.slim)
 
-  pub asks_at : (fs : List ℕ) (c : ℕ) → Bordered hs fs → c ≤ cap → SearchAsks g0 flat hs ws gs fs limit c
-  asks_at fs c b l =
+  pub asks_at : (fs : List ℕ) (c d : ℕ) → Bordered hs fs → c ≤ d → d ≤ cap → SearchAsks g0 flat hs ws gs fs limit c d
+  asks_at fs c d b o l =
       let a = r.asks.asks in
       record {
         asks = record { table = record { columns = a.table.columns; few = a.table.few; room = b.room }; some = a.some; seams_long = a.seams_long; gaps_low = a.gaps_low; first_low = a.first_low; free = a.free };
         is_flat = r.is_flat;
         borders = b;
         limit_low = r.asks.limit_low;
+        ordered = o;
         cap_low = omega (arith, cap_low);
       }
 
   -- Too high even at the cap.
-  too_high : (h : ℕ) → limit < least_height Nested g0 cs cap → Narrow g0 hs ws gs limit cap none h
-  too_high h o = record {
+  too_high : limit < least_height Nested g0 cs cap → Narrow g0 hs ws gs limit cap None
+  too_high o = record {
     within = λ u. absurd (omega (arith, least_keeps (may_stand Nested) g0 cs limit (omega (arith, cap_low)), falls (may_stand Nested) g0 cs (least_width Nested g0 cs limit) cap u));
     over = λ u. refl;
   }
 
-  module _ {top : ℕ} {run : Run} (f : FirstCap flat limit low cap top) (s : Searched g0 hs ws gs limit top run) where
-    -- Below the greatest cap a search starts only where the group keeps the limit.
-    pub not_met : (h : ℕ) → limit < run.height.0 → Narrow g0 hs ws gs limit cap none h × Over g0 hs ws gs limit wide run.clash.0
-    not_met h o = (go (order cap top), λ c l u. above s o c u)
-      where
-        go : (cap ≤ top) ⊎ (top < cap) → Narrow g0 hs ws gs limit cap none h
-        go (inl k) = let z : cap ≡ top = omega (arith, f.to) in too_high h (rw z (omega (arith, s.least top s.fits s.clashes)))
-        go (inr k) =
-            absurd (omega (arith, f.keeps k, r.is_flat, least_flat g0 cs (let n : 0 < length cs = omega (arith, tabulate-length (component_in hs ws gs) (length hs), r.asks.asks.some) in n) r.asks.asks.free top, s.least top s.fits s.clashes))
+  -- Below the greatest cap a search starts only where the group keeps the limit.
+  pub not_met : {top least : ℕ} → FirstCap flat limit low cap top → Missed g0 hs ws gs limit top least → Narrow g0 hs ws gs limit cap None
+  not_met {top} {least} f s = go (order cap top)
+    where
+      go : (cap ≤ top) ⊎ (top < cap) → Narrow g0 hs ws gs limit cap None
+      go (inl k) = let z : cap ≡ top = omega (arith, f.to) in too_high (rw z (s.over top s.clashes))
+      go (inr k) =
+          absurd (omega (arith, f.keeps k, r.is_flat, least_flat g0 cs (let n : 0 < length cs = omega (arith, tabulate-length (component_in hs ws gs) (length hs), r.asks.asks.some) in n) r.asks.asks.free top, s.over top s.clashes))
 
   module _ {fs : List ℕ} {lo hi v : ℕ} (i : Halving g0 hs ws gs fs limit low cap lo hi v) where
-    pub missed : {mid lo' : ℕ} {run : Run} {ds : List ℕ} → Searched g0 hs ws gs limit mid run → Bordered hs ds → lo ≤ mid → limit < run.height.0 → lo' ≡ min run.clash.0 hi → Halving g0 hs ws gs ds limit low cap lo' hi v
-    missed s b l o e = record {
-      borders = b;
-      from = omega (arith, i.from, i.order, s.clashes);
-      order = omega arith;
-      to = i.to;
-      height = i.height;
-      within = i.within;
-      over = λ c p q. above s o c (omega arith);
-    }
-
     all_over : Over g0 hs ws gs limit wide lo
     all_over c l u = ⊎_elim (λ (n : low ≤ c). i.over c n u) (λ (n : c < low). r.over c l n) (order low c)
 
-    pub halved : hi ≤ lo → Narrow g0 hs ws gs limit cap hi v
+    pub halved : hi ≤ lo → Narrow g0 hs ws gs limit cap (Some (outline hi v))
     halved h =
         let k : least_width Nested g0 cs limit ≡ hi =
         width_is (may_stand Nested) cs g0 limit (height_some (may_stand Nested) cs g0 hi (omega (arith, i.height, i.within, r.asks.limit_low)))
         ∙ first_is (least_height Nested g0 cs) limit (widest cs) (suc (widest cs)) hi (omega (arith, i.from, i.order, r.from, r.asks.is_widest)) (omega (arith, i.to, r.asks.to, r.asks.is_widest)) (omega (arith, i.height, i.within))
         (λ j l u. all_over j (omega (arith, r.asks.is_widest)) (omega arith)) in
-        record { within = λ u. (sym k, i.height); over = λ u. absurd (omega (arith, i.to)) }
+        record { within = λ u. cc (k, i.height); over = λ u. absurd (omega (arith, i.to)) }

@@ -17,13 +17,15 @@ use Rattle.group.specs.Table.{entry}
 use Rattle.group.proofs.Indices.{corner}
 use Rattle.group.proofs.Bare.{rows_bare}
 use Rattle.group.proofs.Gaps.{gap_behind_lem, gap_behind_all}
+use Rattle.group.proofs.Falls.{falls}
 use Rattle.group.proofs.Ways.{Allowed, way_flat, way_fold, least_at, fold_point, may_fold, stands_allowed, some_way}
 use Rattle.group_table.specs.Inner.{Low, TopDone}
 use Rattle.group_height.specs.Heights.{fold_rows}
 use Rattle.group_height.proofs.Barred.{rows_free, free_or_far}
 use Rattle.group_search.specs.Outward.{Fresh, LeastFound}
 use Rattle.group_search.specs.declared.Run.{Run}
-use Rattle.group_search.specs.Inner.{RowsMoved, Cleared, SearchAsks, Searched}
+use Rattle.group_search.specs.Inner.{RowsMoved, Cleared, SearchAsks, Searched, Met, Missed}
+use Rattle.model.specs.Outlines.{outline}
 use Rattle.group_search.proofs.Outwards.{all_found}
 
 -- The borders.
@@ -53,17 +55,17 @@ module _ (g0 : ℕ) (cs : List Component) (some : 0 < length cs) (free : unbarre
       go p s l u (inl o) = omega (arith, way_flat g0 cs c p (omega arith))
       go p s l u (inr o) = omega (arith, way_fold g0 cs c p o, f p s o u)
 
--- Where a search starts: no pair was let stand side by side, and none clashed.
-abbrev pub start_at : ℕ → Run
-start_at end = record { height = record { 0 = end }; fit = record { 0 = 0 }; clash = record { 0 = 4000000 } }
+-- Where a search for a width from `low` on starts: no pair clashed.
+abbrev pub start_at : ℕ → ℕ → Run
+start_at low end = record { height = record { 0 = end }; fit = record { 0 = low }; clash = record { 0 = 4000000 } }
 
-module _ {g0 flat : ℕ} {hs ws gs es : List ℕ} {limit cap : ℕ} (r : SearchAsks g0 flat hs ws gs es limit cap) where
+module _ {g0 flat : ℕ} {hs ws gs es : List ℕ} {limit low cap : ℕ} (r : SearchAsks g0 flat hs ws gs es limit low cap) where
   abbrev cs : List Component
   cs = components_in hs ws gs
 
   -- The table once its entries are cleared.
-  module _ {new : List ℕ} {both last : ℕ} (clear : Cleared gs es new both (length gs)) (is_last : last ≡ gap_at gs (length gs - 1)) (is-both : both ≡ max g0 last) where
-    fresh : Fresh (length hs) (fold_rows both gs) new
+  module _ {new : List ℕ} {outer last : ℕ} (clear : Cleared gs es new outer (length gs)) (is_last : last ≡ gap_at gs (length gs - 1)) (is-outer : outer ≡ max g0 last) where
+    fresh : Fresh (length hs) (fold_rows outer gs) new
     fresh = record {
       fold = λ x s l. clear.fold x s (omega (arith, r.asks.seams_long));
       far = λ x y s o l. clear.far x y s (omega (arith, r.asks.seams_long)) o (omega (arith, r.asks.seams_long));
@@ -75,12 +77,12 @@ module _ {g0 flat : ℕ} {hs ws gs es : List ℕ} {limit cap : ℕ} (r : SearchA
     is_gap : last ≡ gap_at gs (length hs - 1)
     is_gap = is_last ∙ ap (λ (k : ℕ). gap_at gs (k - 1)) r.asks.seams_long
 
-    fold_is : (c x : ℕ) → 0 < x → x < length hs → unbarred (take x cs) ≡ true → fold_rows both gs x + entry hs ws c x x ≡ fold_height g0 cs c x
+    fold_is : (c x : ℕ) → 0 < x → x < length hs → unbarred (take x cs) ≡ true → fold_rows outer gs x + entry hs ws c x x ≡ fold_height g0 cs c x
     fold_is c x s l u =
         rw (rows_bare hs ws gs c 0 0 x x, gap_behind_all hs ws gs r.asks.some, gap_behind_lem hs ws gs x s (omega arith))
-        (omega (arith, is_gap, rows_free hs ws gs both x s (omega arith) u))
+        (omega (arith, is_gap, rows_free hs ws gs outer x s (omega arith) u))
 
-    least_is : (c end v : ℕ) → end ≡ min (limit + 1) flat → LeastFound (entry hs ws c) (length hs) (fold_rows both gs) end v → v ≡ min (limit + 1) (least_height Nested g0 cs c)
+    least_is : (c end v : ℕ) → end ≡ min (limit + 1) flat → LeastFound (entry hs ws c) (length hs) (fold_rows outer gs) end v → v ≡ min (limit + 1) (least_height Nested g0 cs c)
     least_is c end v e f =
         let some : 0 < length cs = omega (arith, count, r.asks.some) in
         let no_more : v ≤ least_height Nested g0 cs c =
@@ -89,16 +91,35 @@ module _ {g0 flat : ℕ} {hs ws gs es : List ℕ} {limit cap : ℕ} (r : SearchA
         f.no_less (min (limit + 1) (least_height Nested g0 cs c)) (omega (arith, r.is_flat, least_flat g0 cs some r.asks.free c))
         (λ p s l. ⊎_elim
         (λ (u : unbarred (take p cs) ≡ true). omega (arith, fold_is c p s l u, least_fold g0 cs some r.asks.free c p s (omega (arith, count)) u))
-        (λ (n : none ≤ fold_rows both gs p). omega (arith, r.limit_low))
-        (free_or_far hs ws gs both p s (omega arith))) in
+        (λ (n : none ≤ fold_rows outer gs p). omega (arith, r.limit_low))
+        (free_or_far hs ws gs outer p s (omega arith))) in
         omega (arith, no_more, no_less, f.from_start)
 
-    module _ {last-table : List ℕ} {end : ℕ} {s : Run} (e : end ≡ min (limit + 1) flat) (i : RowsMoved hs ws new last-table cap (start_at end) s) where
+    module _ {last-table : List ℕ} {end : ℕ} {s : Run} (e : end ≡ min (limit + 1) flat) (i : RowsMoved hs ws new last-table cap (start_at low end) s) where
       pub searched : Searched g0 hs ws gs limit cap s
       searched = record {
         fits = i.fits;
         clashes = i.clashes;
         least = λ c l u.
             least_is c end s.height.0 e
-            (all_found (entry hs ws c) (length hs) r.asks.table.few (fold_rows both gs) new end fresh (omega (arith, r.limit_low)) last-table s.height.0 (i.same c l u));
+            (all_found (entry hs ws c) (length hs) r.asks.table.few (fold_rows outer gs) new end fresh (omega (arith, r.limit_low)) last-table s.height.0 (i.same c l u));
       }
+
+-- What a search is taken for.
+module _ {g0 : ℕ} {hs ws gs : List ℕ} {limit cap : ℕ} {s : Run} (d : Searched g0 hs ws gs limit cap s) where
+  pub met : {low : ℕ} → low ≤ s.fit.0 → s.height.0 ≤ limit → Met g0 hs ws gs limit low cap (outline s.fit.0 s.height.0)
+  met l h = record {
+    from = l;
+    to = d.fits;
+    height = omega (arith, d.least s.fit.0 (omega arith) (omega (arith, d.fits, d.clashes)));
+    within = h;
+  }
+
+  pub missed : limit < s.height.0 → Missed g0 hs ws gs limit cap s.clash.0
+  missed h = record {
+    clashes = d.clashes;
+    over = λ c k. ⊎_elim
+        (λ (n : c ≤ cap). omega (arith, falls (may_stand Nested) g0 (components_in hs ws gs) c cap n, d.least cap d.fits d.clashes))
+        (λ (n : cap < c). omega (arith, d.least c (omega (arith, d.fits)) k))
+        (order c cap);
+  }

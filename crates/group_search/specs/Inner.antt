@@ -1,15 +1,17 @@
 -- What the functions inside this crate promise each other. Nothing here is part of a public promise.
-use Rattle.std.specs.Prelude.{ℕ, ◌+◌, ◌-◌, ◌*◌, ◌≤◌, ◌<◌, min, ◌≡◌, List, length, get_or}
+use Rattle.std.specs.Prelude.{ℕ, ◌+◌, ◌*◌, ◌≤◌, ◌<◌, min, ◌≡◌, List, Result, Ok, Err, length, get_or}
 use Rattle.terms.specs.Numbers.{most_size, most_nested, most_limit}
 use Rattle.terms.specs.declared.Kind.TheVariants.{Nested}
 use Rattle.terms.specs.Seams.{components_in}
+use Rattle.terms.specs.declared.Slices.{Slices}
+use Rattle.folding.specs.declared.Outline.{Outline}
 use Rattle.numbers.specs.Table.{stride, cells}
-use Rattle.group.specs.Rows.{rows}
-use Rattle.group.specs.Group.{none, left_side, right_side, flat_height, least_height}
-use Rattle.group.specs.Table.{bare, entry, most_entry, Columns}
+use Rattle.group.specs.Group.{none, flat_height, least_height}
+use Rattle.group.specs.Table.{entry, most_entry, Columns}
+use Rattle.group_table.specs.declared.Stop.{Stop}
+use Rattle.group_table.specs.Walks.{rest_of, Stopped}
 use Rattle.group_height.specs.Heights.{fold_rows, HeightAsks}
 use Rattle.group_search.specs.declared.Run.{Run}
-use Rattle.group_search.specs.declared.Stop.{Stop}
 use Rattle.group_search.specs.Outward.{Same, Adds}
 
 -- The borders of a table hold what is left where one side is used up, for all widths and every cap.
@@ -24,33 +26,6 @@ pub record Bordered (hs es : List ℕ) : Type 0 where
 pub record Ready (hs es : List ℕ) : Type 0 where
   pub borders : Bordered hs es
   pub small : (x y : ℕ) → 0 < x → x ≤ y → y < length hs → get_or es (x * stride + y) 0 ≤ none
-
--- A walk from (p, q), with both sides at the row.
-pub record WalkAsks (hs ws : List ℕ) (p q row : ℕ) : Type 0 where
-  pub columns : Columns hs ws
-  pub few : length hs ≤ most_nested
-  pub within : p ≤ length hs
-  pub more : q ≤ length hs
-  pub row_low : row ≤ none
-
--- The rows that the two sides take from a stop on.
-abbrev pub rest_of : List ℕ → List ℕ → ℕ → Stop → ℕ
-rest_of hs ws cap t = rows cap t.a t.b (left_side t.left (bare hs ws)) (right_side t.right (bare hs ws))
-
--- It came to the stop the same way under every cap that is at least the stop's `fit`.
-pub record Walked (hs ws : List ℕ) (p q row cap fit : ℕ) (t : Stop) : Type 0 where
-  pub left_in : t.left ≤ p
-  pub right_from : q ≤ t.right
-  pub right_in : t.right ≤ length hs
-  pub left_low : t.a + most_size * t.left ≤ row + most_size * p
-  pub right_low : t.b + most_size * q ≤ row + most_size * t.right
-  pub more_fits : fit ≤ t.fit.0
-  pub fits : fit ≤ cap → t.fit.0 ≤ cap
-  pub same : (c : ℕ) → t.fit.0 ≤ c → rest_of hs ws c t ≡ row + entry hs ws c p q
-
--- A side is used up, or two clash.
-abbrev pub Stopped : List ℕ → List ℕ → ℕ → ℕ → ℕ → Type 0
-Stopped hs ws cap x y = 0 < x → y < length hs → cap < get_or ws (x - 1) 0 + get_or ws y 0
 
 -- An offer of a row to (x, y): to the entry, or to the height found where a side is used up.
 pub record OfferAsks (hs es : List ℕ) (x y row : ℕ) : Type 0 where
@@ -68,18 +43,18 @@ pub record Offered (hs old new : List ℕ) (x y row end end' : ℕ) : Type 0 whe
 pub record SettleAsks (hs ws es : List ℕ) (t : Stop) : Type 0 where
   pub ready : Ready hs es
   pub columns : Columns hs ws
-  pub ordered : t.left ≤ t.right
-  pub within : t.right ≤ length hs
-  pub left_low : t.a ≤ none + most_entry
-  pub right_low : t.b ≤ none + most_entry
+  pub ordered : t.at.left ≤ t.at.right
+  pub within : t.at.right ≤ length hs
+  pub left_low : t.at.left_row ≤ none + most_entry
+  pub right_low : t.at.right_row ≤ none + most_entry
 
 pub record Settled (hs ws old new : List ℕ) (t : Stop) (s s' : Run) : Type 0 where
   pub ready : Ready hs new
   pub fit_value : s'.fit.0 ≡ t.fit.0
   pub fewer : s'.clash.0 ≤ s.clash.0
-  pub clashes : (cap : ℕ) → cap < s.clash.0 → Stopped hs ws cap t.left t.right → cap < s'.clash.0
-  pub adds : (c p q : ℕ) → c < s'.clash.0 → t.left ≤ p → q ≤ t.right + 1
-      → Adds (entry hs ws c) (length hs) old s.height.0 new s'.height.0 p q (rest_of hs ws c t)
+  pub clashes : (cap : ℕ) → cap < s.clash.0 → Stopped hs ws cap t.at.left t.at.right → cap < s'.clash.0
+  pub adds : (c p q : ℕ) → c < s'.clash.0 → t.at.left ≤ p → q ≤ t.at.right + 1
+      → Adds (entry hs ws c) (length hs) old s.height.0 new s'.height.0 p q (rest_of hs ws c t.at)
 
 -- Some turns of the search, from (p, q) to (p', q'): a cap that is at least `fit` and under `clash` makes no difference.
 pub record MoveAsks (hs ws es : List ℕ) (cap : ℕ) (s : Run) : Type 0 where
@@ -131,25 +106,26 @@ pub record RowCleared (m : ℕ) (old new : List ℕ) (p v : ℕ) : Type 0 where
   pub beyond : (i : ℕ) → p * stride + m ≤ i → get_or new i 0 ≡ get_or old i 0
 
 -- Clearing the whole table.
-pub record ClearAsks (gs es : List ℕ) (both : ℕ) : Type 0 where
+pub record ClearAsks (gs es : List ℕ) (outer : ℕ) : Type 0 where
   pub some : 1 ≤ length gs
   pub few : length gs ≤ most_nested
   pub room : cells ≤ length es
-  pub both_low : both ≤ most_size
+  pub outer_low : outer ≤ most_size
 
 -- The rows below p are fresh, and the borders have not changed.
-pub record Cleared (gs old new : List ℕ) (both p : ℕ) : Type 0 where
-  pub fold : (x : ℕ) → 0 < x → x < p → get_or new (x * stride + x) 0 ≡ fold_rows both gs x
+pub record Cleared (gs old new : List ℕ) (outer p : ℕ) : Type 0 where
+  pub fold : (x : ℕ) → 0 < x → x < p → get_or new (x * stride + x) 0 ≡ fold_rows outer gs x
   pub far : (x y : ℕ) → 0 < x → x < p → x < y → y < length gs → get_or new (x * stride + y) 0 ≡ none
   pub top : (i : ℕ) → i ≤ length gs → get_or new i 0 ≡ get_or old i 0
   pub side : (x : ℕ) → get_or new (x * stride + length gs) 0 ≡ get_or old (x * stride + length gs) 0
 
--- A search under a cap, in a table whose borders are right.
-pub record SearchAsks (g0 flat : ℕ) (hs ws gs es : List ℕ) (limit cap : ℕ) : Type 0 where
+-- A search under a cap, in a table whose borders are right, for a width from `low` on.
+pub record SearchAsks (g0 flat : ℕ) (hs ws gs es : List ℕ) (limit low cap : ℕ) : Type 0 where
   pub asks : HeightAsks g0 hs ws gs es
   pub is_flat : flat ≡ flat_height g0 (components_in hs ws gs)
   pub borders : Bordered hs es
   pub limit_low : limit ≤ most_limit
+  pub ordered : low ≤ cap
   pub cap_low : cap ≤ 2 * most_size
 
 -- The least height if it is within the limit, and else one more than the limit; the same for every cap that is at least `fit`
@@ -158,6 +134,22 @@ pub record Searched (g0 : ℕ) (hs ws gs : List ℕ) (limit cap : ℕ) (s : Run)
   pub fits : s.fit.0 ≤ cap
   pub clashes : cap < s.clash.0
   pub least : (c : ℕ) → s.fit.0 ≤ c → c < s.clash.0 → s.height.0 ≡ min (limit + 1) (least_height Nested g0 (components_in hs ws gs) c)
+
+-- So the cap leads to a height within the limit, which is the least one at the outline's width;
+pub record Met (g0 : ℕ) (hs ws gs : List ℕ) (limit low cap : ℕ) (o : Outline) : Type 0 where
+  pub from : low ≤ o.width.0
+  pub to : o.width.0 ≤ cap
+  pub height : o.height.0 ≡ least_height Nested g0 (components_in hs ws gs) o.width.0
+  pub within : o.height.0 ≤ limit
+
+-- or to none, and no cap below `least` does.
+pub record Missed (g0 : ℕ) (hs ws gs : List ℕ) (limit cap least : ℕ) : Type 0 where
+  pub clashes : cap < least
+  pub over : (c : ℕ) → c < least → limit < least_height Nested g0 (components_in hs ws gs) c
+
+abbrev pub Outcome : ℕ → List ℕ → List ℕ → List ℕ → ℕ → ℕ → ℕ → Result Outline Slices → Type 0
+Outcome g0 hs ws gs limit low cap (Ok o) = Met g0 hs ws gs limit low cap o
+Outcome g0 hs ws gs limit low cap (Err least) = Missed g0 hs ws gs limit cap least.0
 
 -- A cap from which the halving may start: if it is not the greatest one, the group keeps the limit without a fold.
 pub record FirstCap (flat limit low cap top : ℕ) : Type 0 where

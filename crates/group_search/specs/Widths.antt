@@ -1,9 +1,12 @@
 -- What the search for the least width of a group asks, and what it finds.
-use Rattle.std.specs.Prelude.{ℕ, ◌*◌, ◌≤◌, ◌<◌, ◌≡◌, List}
+use Rattle.std.specs.Prelude.{ℕ, ◌*◌, ◌≤◌, ◌<◌, ◌≡◌, List, Option, Some, None, Result, Ok, Err}
 use Rattle.terms.specs.Numbers.{most_limit}
 use Rattle.terms.specs.declared.Kind.TheVariants.{Nested}
+use Rattle.terms.specs.declared.Slices.{Slices}
 use Rattle.terms.specs.Seams.{components_in}
-use Rattle.group.specs.Group.{none, widest, flat_height, least_height, least_width}
+use Rattle.folding.specs.declared.Outline.{Outline}
+use Rattle.model.specs.Outlines.{outline}
+use Rattle.group.specs.Group.{widest, flat_height, least_height, least_width}
 use Rattle.group_height.specs.Heights.{HeightAsks}
 
 pub record WidthAsks (g0 : ℕ) (hs ws gs es : List ℕ) (limit wide cap : ℕ) : Type 0 where
@@ -24,8 +27,14 @@ pub record LowAsks (g0 flat : ℕ) (hs ws gs es : List ℕ) (limit wide low cap 
   pub to : low ≤ cap
   pub over : Over g0 hs ws gs limit wide low
 
--- The least width up to the cap at which the group is within the limit, and its least height there.
-pub record Narrow (g0 : ℕ) (hs ws gs : List ℕ) (limit cap width height : ℕ) : Type 0 where
+-- The least width up to the cap at which the group is within the limit, and its least height there; nothing, if it is over
+-- the cap.
+pub record Narrow (g0 : ℕ) (hs ws gs : List ℕ) (limit cap : ℕ) (found : Option Outline) : Type 0 where
   pub within : least_width Nested g0 (components_in hs ws gs) limit ≤ cap
-      → (width ≡ least_width Nested g0 (components_in hs ws gs) limit) × (height ≡ least_height Nested g0 (components_in hs ws gs) width)
-  pub over : cap < least_width Nested g0 (components_in hs ws gs) limit → width ≡ none
+      → found ≡ Some (outline (least_width Nested g0 (components_in hs ws gs) limit) (least_height Nested g0 (components_in hs ws gs) (least_width Nested g0 (components_in hs ws gs) limit)))
+  pub over : cap < least_width Nested g0 (components_in hs ws gs) limit → found ≡ None
+
+-- A width below which no cap will do, which is the width found if there is one.
+abbrev pub bound_in : Result Outline Slices → ℕ
+bound_in (Ok o) = o.width.0
+bound_in (Err least) = least.0

@@ -1,9 +1,10 @@
--- What the functions inside this crate promise each other; `Sharing`, `Low`, `TopDone` and `SideDone` belong to what other
--- crates call. Nothing here is part of a public promise.
+-- What the functions inside this crate promise each other; `Low`, `TopDone` and `SideDone` belong to what other crates call.
+-- Nothing here is part of a public promise.
 use Rattle.std.specs.Prelude.{ℕ, ◌+◌, ◌-◌, ◌*◌, ◌≤◌, ◌<◌, min, ◌≡◌, List, Bool, true, false, length, get_or}
 use Rattle.numbers.specs.Table.{stride, cells}
 use Rattle.terms.specs.Numbers.{most_size, most_nested}
 use Rattle.group.specs.Table.{entry, most_entry}
+use Rattle.group_table.specs.declared.Standing.{Standing}
 use Rattle.group_table.specs.Table.{Asks}
 
 -- Whether the component below p and the one at q are both there and may share a row.
@@ -25,25 +26,24 @@ pub record Ready (hs ws es : List ℕ) (cap p q : ℕ) : Type 0 where
   pub more : q < length hs
   pub right : (a b : ℕ) → a ≤ p → q ≤ b → b ≤ length hs → a + q < p + b → Right hs ws es cap a b
 
--- The end of a walk at (p, q), with the left side up to row a and the right one up to row b: the entries that it may read
--- are small.
-pub record Ending (hs es : List ℕ) (p q a b : ℕ) : Type 0 where
+-- Where a walk has stopped the entries that are read next are small.
+pub record Ending (hs es : List ℕ) (at : Standing) : Type 0 where
   pub few : length hs ≤ most_nested
   pub low : (i : ℕ) → get_or hs i 0 ≤ most_size
   pub room : cells ≤ length es
-  pub left_in : p ≤ length hs
-  pub right_in : q ≤ length hs
-  pub left_low : a ≤ most_nested * most_size
-  pub right_low : b ≤ most_nested * most_size
-  pub top : p ≡ 0 → get_or es q 0 ≤ most_entry
-  pub side : 0 < p → q ≡ length hs → get_or es (p * stride + q) 0 ≤ most_entry
-  pub left_comes_first : 0 < p → q < length hs → get_or es ((p - 1) * stride + q) 0 ≤ most_entry
-  pub right_first : 0 < p → q < length hs → get_or es (p * stride + (q + 1)) 0 ≤ most_entry
+  pub left_in : at.left ≤ length hs
+  pub right_in : at.right ≤ length hs
+  pub left_low : at.left_row ≤ most_nested * most_size
+  pub right_low : at.right_row ≤ most_nested * most_size
+  pub top : at.left ≡ 0 → get_or es at.right 0 ≤ most_entry
+  pub side : 0 < at.left → at.right ≡ length hs → get_or es (at.left * stride + at.right) 0 ≤ most_entry
+  pub left_comes_first : 0 < at.left → at.right < length hs → get_or es ((at.left - 1) * stride + at.right) 0 ≤ most_entry
+  pub right_first : 0 < at.left → at.right < length hs → get_or es (at.left * stride + (at.right + 1)) 0 ≤ most_entry
 
-pub record Ended (hs es : List ℕ) (p q a b v : ℕ) : Type 0 where
-  pub top : p ≡ 0 → v ≡ b + get_or es q 0
-  pub side : 0 < p → q ≡ length hs → v ≡ a + get_or es (p * stride + q) 0
-  pub clash : 0 < p → q < length hs → v ≡ min (a + get_or hs (p - 1) 0 + get_or es ((p - 1) * stride + q) 0) (b + get_or hs q 0 + get_or es (p * stride + (q + 1)) 0)
+pub record Ended (hs es : List ℕ) (at : Standing) (v : ℕ) : Type 0 where
+  pub top : at.left ≡ 0 → v ≡ at.right_row + get_or es at.right 0
+  pub side : 0 < at.left → at.right ≡ length hs → v ≡ at.left_row + get_or es (at.left * stride + at.right) 0
+  pub clash : 0 < at.left → at.right < length hs → v ≡ min (at.left_row + get_or hs (at.left - 1) 0 + get_or es ((at.left - 1) * stride + at.right) 0) (at.right_row + get_or hs at.right 0 + get_or es (at.left * stride + (at.right + 1)) 0)
 
 -- What filling row p asks: the rows above it are right from column p on, and so is its last entry.
 pub record RowAsks (hs ws es : List ℕ) (cap p : ℕ) : Type 0 where

@@ -1,2 +1,3 @@
 pub mod Inner
 pub mod Table
+pub mod Walks

@@ -5,10 +5,34 @@ ghost use Rattle.std.specs.Prelude.{◌≡◌, ◌+◌, ◌*◌, ◌≤◌, ◌<
 ghost use Rattle.terms.specs.Pieces.{heights_in, widths_in, sizes};
 ghost use Rattle.group.specs.Table.{entry, Filled};
 ghost use Rattle.group_table.specs.Table.{Asks};
+ghost use Rattle.group_table.specs.Walks.{WalkAsks, Walked, Stopped};
 ghost use Rattle.group_table.specs.Inner.{Sharing, Ready, Ending, Ended, RowAsks, RowDone, Low, TopDone, SideDone};
 
 use numbers::{STRIDE, cell, height, width};
 use terms::{Piece, Slices};
+
+// The rows of each pair of sides of a group, as they are where its width may be at most the cap.
+#[derive(Clone, Copy, Debug)]
+pub struct Table<'a> {
+    pub cells: &'a [u32],
+    pub cap: Slices,
+}
+
+// Where the sides stand: the components before `left` and those from `right` on are still to be placed, from these rows on.
+#[derive(Clone, Copy, Debug, PartialEq, Eq)]
+pub struct Standing {
+    pub left: usize,
+    pub right: usize,
+    pub left_row: u32,
+    pub right_row: u32,
+}
+
+// Where the sides stand when a walk stops. Under every cap that is at least `fit` it comes there in the same way.
+#[derive(Clone, Copy, Debug, PartialEq, Eq)]
+pub struct Stop {
+    pub at: Standing,
+    pub fit: Slices,
+}
 
 // Whether two components stand beside each other at the ends of a walk.
 pub fn beside(stack: &[Piece], p: usize, q: usize, cap: Slices) -> bool
@@ -18,43 +42,64 @@ pub fn beside(stack: &[Piece], p: usize, q: usize, cap: Slices) -> bool
     0 < p && q < stack.len() && width(stack, p - 1) + width(stack, q) <= cap.0
 }
 
-// What the rest adds where no two components stand beside each other.
-fn ending(stack: &[Piece], e: &[u32], p: usize, q: usize, a: u32, b: u32) -> u32
-    requires { Ending (heights_in stack.now) e.now p q a b }
-    ensures { Ended (heights_in stack.now) e.now p q a b result }
+// Both sides are packed from `row` on until two components clash or a side is used up. The stop's `fit` is at least the one
+// given, and no more than the cap where that is not. Inlined, so that nothing is kept of what a caller does not read.
+#[inline(always)]
+pub fn walk(stack: &[Piece], p: usize, q: usize, row: u32, cap: Slices, fit: Slices) -> Stop
+    requires { sizes stack.now WalkAsks p q row }
+    ensures walked { sizes stack.now Walked p q row cap.0 fit.0 result }
+    ensures stopped { sizes stack.now Stopped cap.0 result.at.left result.at.right }
 {
-    if p == 0 {
-        return b + e[q];
+    let mut at = Standing {
+        left: p,
+        right: q,
+        left_row: row,
+        right_row: row,
+    };
+    let mut fit = fit.0;
+    'ends: while beside(stack, at.left, at.right, cap) {
+        fit = fit.max(width(stack, at.left - 1) + width(stack, at.right));
+        let left = at.left_row + height(stack, at.left - 1);
+        let right = at.right_row + height(stack, at.right);
+        if left <= right {
+            at.left -= 1;
+            at.left_row = left;
+        } else {
+            at.right += 1;
+            at.right_row = right;
+        }
     }
-    if q == stack.len() {
-        return a + cell(e, p, q);
+    Stop {
+        at,
+        fit: Slices(fit),
     }
-    let left = a + height(stack, p - 1) + cell(e, p - 1, q);
-    let right = b + height(stack, q) + cell(e, p, q + 1);
+}
+
+// All rows of a group whose sides stand there: those that are taken, and what the rest adds.
+fn ending(stack: &[Piece], cells: &[u32], at: Standing) -> u32
+    requires { Ending (heights_in stack.now) cells.now at }
+    ensures { Ended (heights_in stack.now) cells.now at result }
+{
+    let x = at.left;
+    let y = at.right;
+    if x == 0 {
+        return at.right_row + cells[y];
+    }
+    if y == stack.len() {
+        return at.left_row + cell(cells, x, y);
+    }
+    let left = at.left_row + height(stack, x - 1) + cell(cells, x - 1, y);
+    let right = at.right_row + height(stack, y) + cell(cells, x, y + 1);
     left.min(right)
 }
 
 // The entry (p, q), from entries that are there already.
-fn walk(stack: &[Piece], e: &[u32], p: usize, q: usize, cap: Slices) -> u32
-    requires { sizes stack.now Ready e.now cap.0 p q }
-    ensures { result ≡ sizes stack.now entry cap.0 p q }
+fn entry(stack: &[Piece], table: Table, p: usize, q: usize) -> u32
+    requires { sizes stack.now Ready table.cells.now table.cap.0 p q }
+    ensures { result ≡ sizes stack.now entry table.entry.cap.0 p q }
 {
-    let mut x = p;
-    let mut y = q;
-    let mut a = 0;
-    let mut b = 0;
-    while beside(stack, x, y, cap) {
-        let left = a + height(stack, x - 1);
-        let right = b + height(stack, y);
-        if left <= right {
-            x -= 1;
-            a = left;
-        } else {
-            y += 1;
-            b = right;
-        }
-    }
-    ending(stack, e, x, y, a, b)
+    let stop = walk(stack, p, q, 0, table.cap, Slices(0));
+    ending(stack, table.cells, stop.at)
 }
 
 // Row p of the table, from the right end down to column p.
@@ -63,7 +108,7 @@ fn fill_row(stack: &[Piece], e: &mut [u32], p: usize, cap: Slices)
     ensures { sizes stack.now RowDone e.old e.new cap.0 p p }
 {
     for q in (p..stack.len()).rev() {
-        e[p * STRIDE + q] = walk(stack, e, p, q, cap);
+        e[p * STRIDE + q] = entry(stack, Table { cells: e, cap }, p, q);
     }
 }
 
@@ -89,6 +134,7 @@ pub fn fill_side(stack: &[Piece], e: &mut [u32])
     }
 }
 
+#[tactic(auto, using(crate::proofs::Filling::borders, crate::proofs::Filling::corner_empty, terms::proofs::Pieces::heights_length))]
 pub fn fill(stack: &[Piece], e: &mut [u32], cap: Slices)
     requires { sizes stack.now Asks e.old }
     ensures { sizes stack.now Filled e.new cap.0 }

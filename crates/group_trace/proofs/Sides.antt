@@ -6,7 +6,7 @@ use native.Mathlib.Omega.{arith}
 use lib.ListN.{length}
 use Rattle.terms.specs.declared.Component.{Component}
 use Rattle.terms.specs.Seams.{component_in}
-use Rattle.terms.proofs.Tabulate.{tabulate-length, tabulate-drop, tabulate_end}
+use Rattle.terms.proofs.Tabulate.{tabulate-drop, tabulate_end}
 use Rattle.group.specs.Rows.{ht, packed, put_left, put_right, place}
 use Rattle.group.specs.Group.{left_side, right_side}
 use Rattle.group.specs.Table.{bare, entry, Columns}
@@ -29,9 +29,6 @@ place_none cap a b = refl
 module _ (hs ws : List ℕ) where
   abbrev at : ℕ → Component
   at i = component_in hs ws [] i
-
-  pub bare-length : length (bare hs ws) ≡ length hs
-  bare-length = tabulate-length (component_in hs ws []) (length hs)
 
   pub left_last : (p : ℕ) → 0 < p → p ≤ length hs → left_side p (bare hs ws) ≡ at (p - 1) ∷ left_side (p - 1) (bare hs ws)
   left_last p s h = left_pred (component_in hs ws []) (length hs) p s h

@@ -10,11 +10,13 @@ use Rattle.group.specs.Rows.{Starts}
 use Rattle.group.specs.Group.{on_left, on_right, group_places}
 use Rattle.group.specs.Table.{bare}
 use Rattle.folding.specs.Placement.{flat_of}
+use Rattle.group_table.specs.declared.Standing.{Standing}
+use Rattle.group_trace.specs.declared.Side.{Side}
 use Rattle.group_trace.specs.declared.Side.TheVariants.{Left, Right}
 use Rattle.group_trace.specs.declared.Turn.{Turn}
-use Rattle.group_trace.specs.Trace.{WriteAsks, TurnAsks, starts_of, Turned}
+use Rattle.group_trace.specs.Trace.{WriteAsks, starts_of, side_number, Turned}
 use Rattle.folding.proofs.Flat.{flat_append, flat-length}
-use Rattle.group_trace.proofs.Sides.{place_none, bare-length, right_end}
+use Rattle.group_trace.proofs.Sides.{place_none, right_end}
 
 -- The list in three parts: as it was, written, as it was.
 module _ (old : List ℕ) where
@@ -36,20 +38,20 @@ module _ (old : List ℕ) where
       let e : 3 * q + 3 ≡ 3 * (q + 1) = omega arith in
       rw (← append_assoc t f d, take_at (t ++ f) d (3 * q) n, ← drop-drop 3 (3 * q) (t ++ f ++ d), drop_at (t ++ f) d (3 * q) n, drop-drop 3 (3 * q) old, e, append_assoc t f (g ∷ 1 ∷ b ∷ drop (3 * (q + 1)) old), append_assoc f (g ∷ 1 ∷ b ∷ []) (drop (3 * (q + 1)) old)) refl
 
-pub record Writing (hs ws old : List ℕ) (g from cap : ℕ) (out : List ℕ) (p q a b : ℕ) : Type 0 where
+pub record Writing (hs ws old : List ℕ) (g from cap : ℕ) (out : List ℕ) (at : Standing) : Type 0 where
   pub mid : List Placement
-  pub count : length mid + p ≡ q
-  pub below : p ≤ from
-  pub above : from ≤ q
-  pub within : q ≤ length hs
-  pub low_left : a ≤ 4000 * (q - p)
-  pub low_right : b ≤ 4000 * (q - p)
-  pub whole : reverse_aux (on_left g (starts_of cap (bare hs ws) p q a b).on_the_left) (mid ++ on_right g (starts_of cap (bare hs ws) p q a b).on_the_right) ≡ group_places cap (bare hs ws) g from
-  pub written : out ≡ take (3 * p) old ++ (flat_of mid ++ drop (3 * q) old)
+  pub count : length mid + at.left ≡ at.right
+  pub below : at.left ≤ from
+  pub above : from ≤ at.right
+  pub within : at.right ≤ length hs
+  pub low_left : at.left_row ≤ 4000 * (at.right - at.left)
+  pub low_right : at.right_row ≤ 4000 * (at.right - at.left)
+  pub whole : reverse_aux (on_left g (starts_of cap (bare hs ws) at).on_the_left) (mid ++ on_right g (starts_of cap (bare hs ws) at).on_the_right) ≡ group_places cap (bare hs ws) g from
+  pub written : out ≡ take (3 * at.left) old ++ (flat_of mid ++ drop (3 * at.right) old)
   pub long : length out ≡ length old
 
 module _ {hs ws es old : List ℕ} {from cap : ℕ} (s : WriteAsks hs ws es old from cap) (g : ℕ) where
-  pub start : Writing hs ws old g from cap old from from 0 0
+  pub start : Writing hs ws old g from cap old (record { left = from; right = from; left_row = 0; right_row = 0 })
   unfolding group_places
   start = record {
     mid = [];
@@ -64,74 +66,87 @@ module _ {hs ws es old : List ℕ} {from cap : ℕ} (s : WriteAsks hs ws es old 
     long = refl;
   }
 
-  module _ {out : List ℕ} {p q a b : ℕ} (i : Writing hs ws old g from cap out p q a b) where
-    pub asks : q - p < length hs → TurnAsks hs ws es p q a b cap
-    asks h = record {
-      columns = s.columns;
-      few = s.few;
-      apart = omega (arith, i.count);
-      within = i.within;
-      more = h;
-      table = λ k. s.table (omega (arith, i.above));
-      low_left = i.low_left;
-      low_right = i.low_right;
-    }
-
+  module _ {out : List ℕ} {at : Standing} (i : Writing hs ws old g from cap out at) where
     -- What the start rows of the rest make with the part that is written.
     abbrev whole_of : List Placement → Starts → List Placement
     whole_of ps t = reverse_aux (on_left g t.on_the_left) (ps ++ on_right g t.on_the_right)
 
-    module _ {t : Turn} (n : Turned cap (bare hs ws) p q a b t) where
-      pub right_room : t.side ≡ Right → (q < 256) × (3 * q + 2 < length out)
-      right_room l = (omega (arith, n.rest l, bare-length hs ws, s.few), omega (arith, n.rest l, bare-length hs ws, s.room, i.long))
+    module _ {t : Turn} (n : Turned cap hs ws at t) where
+      -- The turn places a component of the group.
+      pub index_in : t.index < length hs
+      index_in = go t.side refl
+        where
+          go : (side : Side) → t.side ≡ side → t.index < length hs
+          go Left l = rw (n.to_left l).1 (omega (arith, (n.to_left l).0, i.below, s.within))
+          go Right l = rw (n.to_right l).1 (n.to_right l).0
 
-    module _ {t : Turn} (n : Turned cap (bare hs ws) p q a b t) {new : List ℕ} (len : length new ≡ length out) where
-      pub left_more : t.side ≡ Left → new ≡ take (3 * (p - 1)) out ++ (g ∷ 0 ∷ a ∷ drop (3 * (p - 1) + 3) out) → Writing hs ws old g from cap new (p - 1) q t.a t.b
-      left_more l e =
-          let h : 0 < p = n.some l in
-          record {
-            mid = record { group = g; side = 0; start = a } ∷ i.mid;
-            count = omega (arith, i.count);
-            below = omega (arith, i.below);
-            above = i.above;
-            within = i.within;
-            low_left = omega (arith, n.low, i.low_left, i.low_right, i.count);
-            low_right = omega (arith, n.low, i.low_left, i.low_right, i.count);
-            whole = ap (λ (z : Starts). whole_of i.mid z) (sym (n.to_left l)) ∙ i.whole;
-            written = e ∙ rw i.written (wrote_left old (flat_of i.mid) (drop (3 * q) old) p g a h (omega (arith, s.room, i.count, i.within)));
-            long = len ∙ i.long;
-          }
+      pub one_more : (k : ℕ) → at.left + k ≡ at.right → t.next.left + (k + 1) ≡ t.next.right
+      one_more k c = go t.side refl
+        where
+          go : (side : Side) → t.side ≡ side → t.next.left + (k + 1) ≡ t.next.right
+          go Left l = rw (n.to_left l).1 (omega (arith, (n.to_left l).0, c))
+          go Right l = rw (n.to_right l).1 (omega (arith, c))
 
-      pub right_more : t.side ≡ Right → new ≡ take (3 * q) out ++ (g ∷ 1 ∷ b ∷ drop (3 * q + 3) out) → Writing hs ws old g from cap new p (q + 1) t.a t.b
-      right_more l e =
-          let h : q < length hs = omega (arith, n.rest l, bare-length hs ws) in
-          let y : Placement = record { group = g; side = 1; start = b } in
-          let z = starts_of cap (bare hs ws) p (q + 1) t.a t.b in
-          record {
-            mid = i.mid ++ (y ∷ []);
-            count = omega (arith, i.count, length-append i.mid (y ∷ []));
-            below = i.below;
-            above = omega (arith, i.above);
-            within = omega arith;
-            low_left = omega (arith, n.low, i.low_left, i.low_right, i.count);
-            low_right = omega (arith, n.low, i.low_left, i.low_right, i.count);
-            whole =
-                ap (λ (k : List Placement). reverse_aux (on_left g z.on_the_left) k) (append_snoc i.mid y (on_right g z.on_the_right))
-                ∙ ap (λ (k : Starts). whole_of i.mid k) (sym (n.to_right l)) ∙ i.whole;
-            written =
-                e
-                ∙ rw (i.written, flat_append i.mid (y ∷ []))
-                (wrote_right old (flat_of i.mid) p q g b (omega (arith, s.room, i.count, i.within)) (omega (arith, flat-length i.mid, i.count)));
-            long = len ∙ i.long;
-          }
+      module _ {new : List ℕ} (len : length new ≡ length out) (e : new ≡ take (3 * t.index) out ++ (g ∷ side_number t.side ∷ t.start ∷ drop (3 * t.index + 3) out)) where
+        left_more : t.side ≡ Left → Writing hs ws old g from cap new t.next
+        left_more l =
+            let h = n.to_left l in
+            rw h.1 record {
+              mid = record { group = g; side = 0; start = at.left_row } ∷ i.mid;
+              count = omega (arith, h.0, i.count);
+              below = omega (arith, i.below);
+              above = i.above;
+              within = i.within;
+              low_left = omega (arith, h.0, n.low, i.low_left, i.low_right, i.count);
+              low_right = omega (arith, h.0, n.low, i.low_left, i.low_right, i.count);
+              whole = ap (λ (z : Starts). whole_of i.mid z) (sym (rw h.1 at h.2)) ∙ i.whole;
+              written =
+                  (rw h.1 at e)
+                  ∙ rw i.written
+                  (wrote_left old (flat_of i.mid) (drop (3 * at.right) old) at.left g at.left_row h.0 (omega (arith, s.room, i.count, i.within)));
+              long = len ∙ i.long;
+            }
 
-    pub ended : length hs ≤ q - p → out ≡ flat_of (group_places cap (bare hs ws) g from) ++ drop (3 * length hs) old
+        right_more : t.side ≡ Right → Writing hs ws old g from cap new t.next
+        right_more l =
+            let h = n.to_right l in
+            let y : Placement = record { group = g; side = 1; start = at.right_row } in
+            let z = starts_of cap (bare hs ws) t.next in
+            rw h.1 record {
+              mid = i.mid ++ (y ∷ []);
+              count = omega (arith, i.count, length-append i.mid (y ∷ []));
+              below = i.below;
+              above = omega (arith, i.above);
+              within = omega (arith, h.0);
+              low_left = omega (arith, n.low, i.low_left, i.low_right, i.count);
+              low_right = omega (arith, n.low, i.low_left, i.low_right, i.count);
+              whole =
+                  rw h.1 at (
+                  ap (λ (k : List Placement). reverse_aux (on_left g z.on_the_left) k) (append_snoc i.mid y (on_right g z.on_the_right))
+                  ∙ ap (λ (k : Starts). whole_of i.mid k) (sym h.2) ∙ i.whole
+                  );
+              written =
+                  (rw h.1 at e)
+                  ∙ rw (i.written, flat_append i.mid (y ∷ []))
+                  (wrote_right old (flat_of i.mid) at.left at.right g at.right_row (omega (arith, s.room, i.count, i.within)) (omega (arith, flat-length i.mid, i.count)));
+              long = len ∙ i.long;
+            }
+
+        -- The component is written, and the sides stand where the turn says.
+        pub turn_more : Writing hs ws old g from cap new t.next
+        turn_more = go t.side refl
+          where
+            go : (side : Side) → t.side ≡ side → Writing hs ws old g from cap new t.next
+            go Left l = left_more l
+            go Right l = right_more l
+
+    pub ended : length hs ≤ at.right - at.left → out ≡ flat_of (group_places cap (bare hs ws) g from) ++ drop (3 * length hs) old
     ended h =
-        let z : p ≡ 0 = omega (arith, i.within) in
-        let e : q ≡ length hs = omega (arith, i.within) in
+        let z : at.left ≡ 0 = omega (arith, i.within) in
+        let e : at.right ≡ length hs = omega (arith, i.within) in
         i.written ∙ rw (z, e) (ap (λ (ps : List Placement). flat_of ps ++ drop (3 * length hs) old) (none_left z e))
       where
-        none_left : p ≡ 0 → q ≡ length hs → i.mid ≡ group_places cap (bare hs ws) g from
+        none_left : at.left ≡ 0 → at.right ≡ length hs → i.mid ≡ group_places cap (bare hs ws) g from
         none_left z e =
-            let d : starts_of cap (bare hs ws) p q a b ≡ record { on_the_left = []; on_the_right = [] } = rw (z, right_end hs ws q (omega arith)) (place_none cap a b) in
+            let d : starts_of cap (bare hs ws) at ≡ record { on_the_left = []; on_the_right = [] } = rw (z, right_end hs ws at.right (omega arith)) (place_none cap at.left_row at.right_row) in
             sym (append-nil i.mid) ∙ ap (λ (k : Starts). whole_of i.mid k) (sym d) ∙ i.whole

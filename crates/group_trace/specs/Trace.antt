@@ -7,8 +7,15 @@ use Rattle.folding.specs.Placement.{flat_of}
 use Rattle.group.specs.Rows.{Starts, put_left, put_right, place}
 use Rattle.group.specs.Group.{left_side, right_side, group_places}
 use Rattle.group.specs.Table.{bare, Columns, Filled}
+use Rattle.group_table.specs.declared.Standing.{Standing}
+use Rattle.group_trace.specs.declared.Side.{Side}
 use Rattle.group_trace.specs.declared.Side.TheVariants.{Left, Right}
 use Rattle.group_trace.specs.declared.Turn.{Turn}
+
+-- The side of a placement.
+abbrev pub side_number : Side → ℕ
+side_number Left = 0
+side_number Right = 1
 
 -- Where a group has no fold the table is not read, and the group may have more components than a table takes.
 abbrev pub TableFrom : List ℕ → List ℕ → List ℕ → ℕ → ℕ → Type 0
@@ -23,29 +30,43 @@ pub record WriteAsks (hs ws es out : List ℕ) (p cap : ℕ) : Type 0 where
   pub table : TableFrom hs ws es cap p
   pub room : 3 * length hs ≤ length out
 
--- The first p components and those from q on are still to be placed, the left ones from row a on, the right ones from row b
--- on.
-pub record TurnAsks (hs ws es : List ℕ) (p q a b cap : ℕ) : Type 0 where
+-- What the next turn asks of where the sides stand.
+pub record TurnAsks (hs ws es : List ℕ) (at : Standing) (cap : ℕ) : Type 0 where
   pub columns : Columns hs ws
   pub few : length hs ≤ most_apart
-  pub apart : p ≤ q
-  pub within : q ≤ length hs
-  pub more : q - p < length hs
-  pub table : TableFrom hs ws es cap q
-  pub low_left : a ≤ most_size * (q - p)
-  pub low_right : b ≤ most_size * (q - p)
+  pub apart : at.left ≤ at.right
+  pub within : at.right ≤ length hs
+  pub more : at.right - at.left < length hs
+  pub table : TableFrom hs ws es cap at.right
+  pub low_left : at.left_row ≤ most_size * (at.right - at.left)
+  pub low_right : at.right_row ≤ most_size * (at.right - at.left)
 
--- The start rows of those.
-abbrev pub starts_of : ℕ → List Component → ℕ → ℕ → ℕ → ℕ → Starts
-starts_of cap cs p q a b = place cap a b (left_side p cs) (right_side q cs)
+-- The start rows of the components that are still to be placed.
+abbrev pub starts_of : ℕ → List Component → Standing → Starts
+starts_of cap cs at = place cap at.left_row at.right_row (left_side at.left cs) (right_side at.right cs)
 
--- The turn places the last one of the left side, or the first one of the right side, and says where the sides go on.
-pub record Turned (cap : ℕ) (cs : List Component) (p q a b : ℕ) (t : Turn) : Type 0 where
-  pub some : t.side ≡ Left → 0 < p
-  pub to_left : t.side ≡ Left → starts_of cap cs p q a b ≡ put_left a (starts_of cap cs (p - 1) q t.a t.b)
-  pub rest : t.side ≡ Right → q < length cs
-  pub to_right : t.side ≡ Right → starts_of cap cs p q a b ≡ put_right b (starts_of cap cs p (q + 1) t.a t.b)
-  pub low : max t.a t.b ≤ max a b + most_size
+-- A turn places the last component of the left side, or the first one of the right side.
+abbrev pub left_turn : Standing → ℕ → ℕ → Turn
+left_turn at a b = record {
+  index = at.left - 1;
+  side = Left;
+  start = at.left_row;
+  next = record { left = at.left - 1; right = at.right; left_row = a; right_row = b };
+}
+
+abbrev pub right_turn : Standing → ℕ → ℕ → Turn
+right_turn at a b = record {
+  index = at.right;
+  side = Right;
+  start = at.right_row;
+  next = record { left = at.left; right = at.right + 1; left_row = a; right_row = b };
+}
+
+-- The turn is the one that the start rows of the group make.
+pub record Turned (cap : ℕ) (hs ws : List ℕ) (at : Standing) (t : Turn) : Type 0 where
+  pub to_left : t.side ≡ Left → (0 < at.left) × (t ≡ left_turn at t.next.left_row t.next.right_row) × (starts_of cap (bare hs ws) at ≡ put_left at.left_row (starts_of cap (bare hs ws) t.next))
+  pub to_right : t.side ≡ Right → (at.right < length hs) × (t ≡ right_turn at t.next.left_row t.next.right_row) × (starts_of cap (bare hs ws) at ≡ put_right at.right_row (starts_of cap (bare hs ws) t.next))
+  pub low : max t.next.left_row t.next.right_row ≤ max at.left_row at.right_row + most_size
 
 -- A buffer that holds the placements of the group with p components on the left, and behind them what it held.
 abbrev pub group_into : ℕ → ℕ → ℕ → List ℕ → List ℕ → List ℕ → List ℕ

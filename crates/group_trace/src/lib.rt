@@ -1,14 +1,14 @@
-// Writes the placements of one group, with the fold where the table of the group has found it.
+// Writes the placements of one group, with its first `left` components on the left of the fold.
 #![tactic(auto)]
 
 ghost use Rattle.std.specs.Prelude.{◌≡◌, ◌∷◌, ◌++◌, ◌+◌, ◌*◌, ◌<◌, length, take, drop};
 ghost use Rattle.terms.specs.Numbers.{most_apart};
 ghost use Rattle.terms.specs.Pieces.{heights_in, sizes};
-ghost use Rattle.group.specs.Table.{bare};
-ghost use Rattle.group_trace.specs.Trace.{WriteAsks, TurnAsks, Turned, group_into};
+ghost use Rattle.group_trace.specs.Trace.{WriteAsks, TurnAsks, left_turn, right_turn, Turned, side_number, group_into};
 
+use group_table::{Standing, Table};
 use numbers::{cell, height, width};
-use terms::{Piece, Slices};
+use terms::Piece;
 
 // The side of its group's fold on which a component lies.
 #[derive(Clone, Copy, Debug, PartialEq, Eq)]
@@ -17,102 +17,126 @@ enum Side {
     Right,
 }
 
-// Which side the next component goes to, and the rows where the sides go on.
+// As a placement has it.
+impl From<Side> for u32 {
+    ghost from_gives = { λ side n. n ≡ side_number side };
+
+    fn from(side: Side) -> u32 {
+        match side {
+            Side::Left => 0,
+            Side::Right => 1,
+        }
+    }
+}
+
+// What a turn places: a component's index, its side and its start row; and where the sides stand then.
 #[derive(Clone, Copy, Debug, PartialEq, Eq)]
 struct Turn {
+    index: usize,
     side: Side,
-    a: u32,
-    b: u32,
+    start: u32,
+    next: Standing,
 }
 
-// Both sides have components left: the lower one goes first where the two fit side by side, else the one that leaves the
-// fewer rows.
-fn meet(stack: &[Piece], e: &[u32], p: usize, q: usize, a: u32, b: u32, cap: Slices) -> Turn
-    requires { sizes stack.now TurnAsks e.now p q a b cap.0 × (0 < p) × (q < length (heights_in stack.now)) }
-    ensures { Turned cap.0 (sizes stack.now bare) p q a b result }
-{
-    let x = p - 1;
-    let c = a + height(stack, x);
-    let d = b + height(stack, q);
-    if width(stack, x) + width(stack, q) <= cap.0 {
-        if c <= d {
-            return Turn {
-                side: Side::Left,
-                a: c,
-                b,
-            };
+impl Turn {
+    // The last component of the left side is placed, and the sides go on from these rows.
+    fn left(at: Standing, left_row: u32, right_row: u32) -> Turn
+        requires { 0 < at.left }
+        ensures { result ≡ left_turn at left_row right_row }
+    {
+        let left = at.left - 1;
+        Turn {
+            index: left,
+            side: Side::Left,
+            start: at.left_row,
+            next: Standing {
+                left,
+                left_row,
+                right_row,
+                ..at
+            },
         }
-        return Turn {
-            side: Side::Right,
-            a,
-            b: d,
-        };
     }
-    if c + cell(e, x, q) <= d + cell(e, p, q + 1) {
-        return Turn {
-            side: Side::Left,
-            a: c,
-            b: c,
-        };
-    }
-    Turn {
-        side: Side::Right,
-        a: d,
-        b: d,
-    }
-}
 
-// The next turn: the only side that has components left goes on, or the two meet.
-fn next(stack: &[Piece], e: &[u32], p: usize, q: usize, a: u32, b: u32, cap: Slices) -> Turn
-    requires { sizes stack.now TurnAsks e.now p q a b cap.0 }
-    ensures { Turned cap.0 (sizes stack.now bare) p q a b result }
-{
-    if p == 0 {
-        return Turn {
+    // The first component of the right side is placed, and the sides go on from these rows.
+    fn right(at: Standing, left_row: u32, right_row: u32) -> Turn
+        requires { at.right < most_apart }
+        ensures { result ≡ right_turn at left_row right_row }
+    {
+        Turn {
+            index: at.right,
             side: Side::Right,
-            a,
-            b: b + height(stack, q),
-        };
+            start: at.right_row,
+            next: Standing {
+                right: at.right + 1,
+                left_row,
+                right_row,
+                ..at
+            },
+        }
     }
-    if q == stack.len() {
-        return Turn {
-            side: Side::Left,
-            a: a + height(stack, p - 1),
-            b,
-        };
+
+    // Both sides have components left: the lower one goes first where the two fit side by side, else the one that leaves
+    // the fewer rows.
+    #[tactic(auto, using(crate::proofs::Turns::beside_left, crate::proofs::Turns::beside_right, crate::proofs::Turns::left_comes_first, crate::proofs::Turns::right_first))]
+    fn meet(at: Standing, stack: &[Piece], table: Table) -> Turn
+        requires { sizes stack.now TurnAsks table.cells.now at table.cap.0 × (0 < at.left) × (at.right < length (heights_in stack.now)) }
+        ensures { sizes stack.now (Turned table.entry.cap.0) at result }
+    {
+        let x = at.left - 1;
+        let y = at.right;
+        let left = at.left_row + height(stack, x);
+        let right = at.right_row + height(stack, y);
+        if width(stack, x) + width(stack, y) <= table.cap.0 {
+            if left <= right {
+                return Turn::left(at, left, at.right_row);
+            }
+            return Turn::right(at, at.left_row, right);
+        }
+        if left + cell(table.cells, x, y) <= right + cell(table.cells, at.left, y + 1) {
+            return Turn::left(at, left, left);
+        }
+        Turn::right(at, right, right)
     }
-    meet(stack, e, p, q, a, b, cap)
+
+    // The turn where the sides stand so: the only side that has components left goes on, or the two meet.
+    #[tactic(auto, using(crate::proofs::Turns::only_left, terms::proofs::Pieces::heights_length))]
+    fn of(at: Standing, stack: &[Piece], table: Table) -> Turn
+        requires { sizes stack.now TurnAsks table.cells.now at table.cap.0 }
+        ensures { sizes stack.now (Turned table.entry.cap.0) at result }
+    {
+        if at.left == 0 {
+            return Turn::right(at, at.left_row, at.right_row + height(stack, at.right));
+        }
+        if at.right == stack.len() {
+            return Turn::left(at, at.left_row + height(stack, at.left - 1), at.right_row);
+        }
+        Turn::meet(at, stack, table)
+    }
 }
 
 // The three numbers of the component that has i others before it.
-fn put(out: &mut [u32], i: usize, group: u32, side: u32, start: u32)
+fn put(out: &mut [u32], i: usize, group: u32, side: Side, start: u32)
     requires { (i < most_apart) × (3 * i + 2 < length out.old) }
-    ensures { out.new ≡ take (3 * i) out.old ++ (group ∷ side ∷ start ∷ drop (3 * i + 3) out.old) }
+    ensures { out.new ≡ take (3 * i) out.old ++ (group ∷ side_number side ∷ start ∷ drop (3 * i + 3) out.old) }
 {
-    out[3 * i..3 * i + 3].copy_from_slice(&[group, side, start]);
+    out[3 * i..3 * i + 3].copy_from_slice(&[group, u32::from(side), start]);
 }
 
-pub fn write_group(stack: &[Piece], e: &[u32], out: &mut [u32], group: u32, p: usize, cap: Slices)
-    requires { sizes stack.now WriteAsks e.now out.old p cap.0 }
-    ensures { out.new ≡ sizes stack.now (group_into cap.0 group p) out.old }
+#[tactic(auto, using(crate::proofs::Writing::start))]
+pub fn write_group(stack: &[Piece], table: Table, out: &mut [u32], group: u32, left: usize)
+    requires { sizes stack.now WriteAsks table.cells.now out.old left table.cap.0 }
+    ensures { out.new ≡ sizes stack.now (group_into table.entry.cap.0 group left) out.old }
 {
-    let mut left = p;
-    let mut right = p;
-    let mut a = 0;
-    let mut b = 0;
-    while right - left < stack.len() {
-        let t = next(stack, e, left, right, a, b, cap);
-        match t.side {
-            Side::Left => {
-                left -= 1;
-                put(out, left, group, 0, a);
-            }
-            Side::Right => {
-                put(out, right, group, 1, b);
-                right += 1;
-            }
-        }
-        a = t.a;
-        b = t.b;
+    let mut at = Standing {
+        left,
+        right: left,
+        left_row: 0,
+        right_row: 0,
+    };
+    for _turn in 0..stack.len() {
+        let t = Turn::of(at, stack, table);
+        put(out, t.index, group, t.side, t.start);
+        at = t.next;
     }
 }

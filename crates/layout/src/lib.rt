@@ -1,6 +1,11 @@
 // The layout of a stack for a height, as a recurrence over its first group; what it comes to is shown in proofs/.
 #![tactic(auto)]
 
+ghost use Rattle.std.specs.Prelude.{◌≡◌};
+ghost use Rattle.layout.specs.Layout.{better};
+ghost use Rattle.layout.specs.Plan.{layout_in, outline_in};
+
+use folding::Outline;
 use group::NONE;
 use terms::{Rows, Slices};
 
@@ -13,9 +18,41 @@ pub struct Entry {
 }
 
 impl Entry {
+    // The layout of no components. A list of these is cleared at once, since all their bytes are 0.
+    pub const EMPTY: Entry = Entry {
+        width: Slices(0),
+        height: Rows(0),
+        end: 0,
+    };
+
+    // No layout keeps the limit.
     pub const UNMET: Entry = Entry {
         width: Slices(NONE),
         height: Rows(NONE),
         end: 0,
     };
+
+    // Whether a layout is narrower than another, or as wide and lower. Widths are compared first and alone: most layouts are too
+    // wide, and the pair of both numbers in one comparison made apart folds a third slower.
+    pub fn is_better(self, other: Entry) -> bool
+        ensures { result ≡ better (layout_in self) (layout_in other) }
+    {
+        if other.width < self.width {
+            return false;
+        }
+        if self.width < other.width {
+            return true;
+        }
+        self.height < other.height
+    }
+
+    // The outline of a layout, if there is one.
+    pub fn outline(self) -> Option<Outline>
+        ensures { result ≡ outline_in (layout_in self) }
+    {
+        (self.width.0 < NONE).then_some(Outline {
+            width: self.width,
+            height: self.height,
+        })
+    }
 }

@@ -1,13 +1,12 @@
 -- The pass over a folding, one component further.
-use Rattle.std.proofs.Common.{◌≡◌, ℕ, ◌+◌, ◌≤◌, ◌<◌, Bool, true, false, ◌&&◌, drop, eqb, sym, ◌∙◌}
+use Rattle.std.proofs.Common.{◌≡◌, ℕ, ◌+◌, ◌≤◌, ◌<◌, Bool, true, false, ◌&&◌, drop, eqb, ◌∙◌}
 use Rattle.terms.specs.declared.Kind.{Kind}
 use Rattle.terms.specs.Component.{tabulate}
-use Rattle.terms.proofs.Bools.{both}
 use Rattle.terms.proofs.Tabulate.{tabulate-drop, tabulate_end}
 use Rattle.folding.specs.declared.Placed.{Placed}
-use Rattle.folding.specs.Placement.{group_of, start_of, left}
+use Rattle.folding.specs.Placement.{group_of, left}
 use Rattle.folding.specs.Legal.{unparted, legal}
-use Rattle.folding.proofs.Rules.{passes, alone_is, legal_passes}
+use Rattle.folding.proofs.Rules.{passes, legal_passes}
 use Rattle.legality.specs.Inner.{alone, follows}
 
 -- The pass of a legal folding, of which n components are tabulated.
@@ -19,16 +18,10 @@ module _ (kind : Kind) (g : ℕ → Placed) (n : ℕ) where
     pub pass_unopened : b ≡ false → false ≡ legal kind (tabulate g n)
     pass_unopened z = rw (opened, z)
 
-    pub opened_low : b ≡ true → start_of x ≤ 1024000
-    opened_low z = (alone_is kind x (both (eqb (group_of x) 0 && left x) (alone kind x) (sym o ∙ z)).1).low
-
     pub pass_opened : b ≡ true → passes kind x (drop 1 (tabulate g n)) ≡ legal kind (tabulate g n)
     pass_opened z = rw (opened, z)
 
   module _ (x y : Placed) {b : Bool} (o : b ≡ (alone kind y && follows x y && unparted x y)) where
-    pub next_low : b ≡ true → start_of y ≤ 1024000
-    next_low z = (alone_is kind y (both (alone kind y) (follows x y) (both (alone kind y && follows x y) (unparted x y) (sym o ∙ z)).0).0).low
-
     module _ (i : ℕ) (h : i < n) (e : y ≡ g i) {whole : Bool} (p : passes kind x (drop i (tabulate g n)) ≡ whole) where
       here : (b && passes kind y (drop (i + 1) (tabulate g n))) ≡ whole
       unfolding passes

@@ -1,30 +1,25 @@
 // Whether a folding is legal.
 #![tactic(auto)]
 
-ghost use Rattle.std.specs.Prelude.{◌≡◌, true, ◌&&◌, ◌<◌, length, eqb};
+ghost use Rattle.std.specs.Prelude.{◌≡◌, true, ◌&&◌, ◌<◌, length, eqb, leb};
 ghost use Rattle.terms.specs.Pieces.{columns};
-ghost use Rattle.folding.specs.Placement.{height_of, group_of, end_of, left};
+ghost use Rattle.folding.specs.Placement.{group_of, start_of, end_of, left, placements_in};
 ghost use Rattle.folding.specs.Legal.{legal, same_group, unparted};
 ghost use Rattle.folding.specs.Asks.{placed_at, placed_in, Listed};
-ghost use Rattle.legality.specs.Inner.{EndsLow, alone, follows};
+ghost use Rattle.legality.specs.Inner.{alone, follows};
 
 use folding::{MOST_START, Placed, Placement};
 use numbers::component;
-use terms::{Kind, Piece, Rows};
+use terms::{Kind, Piece};
 
-fn placed_at(stack: &[Piece], flat: &[u32], i: usize) -> Placed
-    requires { columns stack.now Listed flat.now × (i < length stack.now) }
-    ensures value { result
-        ≡ columns stack.now placed_at flat.now i }
-    ensures result_bound { height_of result < 65536 }
+fn placed_at(stack: &[Piece], placements: &[[u32; 3]], i: usize) -> Placed
+    requires { columns stack.now Listed (placements_in placements.now) × (i < length stack.now) }
+    ensures { result
+        ≡ columns stack.now placed_at (placements_in placements.now) i }
 {
     Placed {
         component: component(stack, i),
-        placement: Placement {
-            group: flat[3 * i],
-            side: flat[3 * i + 1],
-            start: flat[3 * i + 2],
-        },
+        placement: Placement::at(placements, i),
     }
 }
 
@@ -33,40 +28,31 @@ fn stands_alone(kind: Kind, x: Placed) -> bool
     ensures { result ≡ alone kind x }
 {
     let p = x.placement;
-    p.side <= 1
-        && p.start <= MOST_START
-        && match kind {
-            Kind::Apart => p.side == 0,
-            Kind::Nested => true,
-        }
+    p.side <= 1 && p.start <= MOST_START && (kind == Kind::Nested || p.side == 0)
 }
 
-fn end_of(x: Placed) -> Rows
-    requires { EndsLow x }
-    ensures { result.0 ≡ end_of x }
+// Whether the upper one starts at or above the end of the lower one.
+fn is_clear(lower: Placed, upper: Placed) -> bool
+    ensures { result ≡ leb (end_of lower) (start_of upper) }
 {
-    Rows(x.placement.start + x.component.height.0)
+    let end = u64::from(lower.placement.start) + u64::from(lower.component.height.0);
+    end <= u64::from(upper.placement.start)
 }
 
 // Whether y may follow x, where both are in one group.
 fn stands_behind(x: Placed, y: Placed) -> bool
-    requires x_bound { EndsLow x }
-    requires y_bound { EndsLow y }
-    requires y_value { same_group x y ≡ true }
+    requires { same_group x y ≡ true }
     ensures { result ≡ follows x y }
 {
-    let p = x.placement;
-    let q = y.placement;
-    if p.side == 0 {
-        q.side != 0 || end_of(y).0 <= p.start
+    let on_right = y.placement.side != 0;
+    if x.placement.side == 0 {
+        on_right || is_clear(y, x)
     } else {
-        q.side != 0 && end_of(x).0 <= q.start
+        on_right && is_clear(x, y)
     }
 }
 
 fn may_follow(x: Placed, y: Placed) -> bool
-    requires x_bound { EndsLow x }
-    requires y_bound { EndsLow y }
     ensures { result ≡ follows x y }
 {
     let p = x.placement;
@@ -74,7 +60,7 @@ fn may_follow(x: Placed, y: Placed) -> bool
     if q.group == p.group {
         stands_behind(x, y)
     } else {
-        p.group < q.group && q.group - p.group == 1 && q.side == 0
+        p.group.checked_add(1) == Some(q.group) && q.side == 0
     }
 }
 
@@ -89,8 +75,6 @@ fn stays_with(x: Placed, y: Placed) -> bool
 
 // Whether y may be the component behind x.
 fn may_stand_next(kind: Kind, x: Placed, y: Placed) -> bool
-    requires x_bound { EndsLow x }
-    requires y_bound { height_of y < 65536 }
     ensures { result
         ≡ (alone kind y && follows x y && unparted x y) }
 {
@@ -98,17 +82,17 @@ fn may_stand_next(kind: Kind, x: Placed, y: Placed) -> bool
 }
 
 // Whether the placements are legal, in one pass.
-pub fn is_legal(kind: Kind, stack: &[Piece], flat: &[u32]) -> bool
-    requires { columns stack.now Listed flat.now × (0 < length stack.now) }
+pub fn is_legal(kind: Kind, stack: &[Piece], placements: &[[u32; 3]]) -> bool
+    requires { columns stack.now Listed (placements_in placements.now) × (0 < length stack.now) }
     ensures { result
-        ≡ legal kind (columns stack.now placed_in flat.now) }
+        ≡ legal kind (columns stack.now placed_in (placements_in placements.now)) }
 {
-    let mut x = placed_at(stack, flat, 0);
+    let mut x = placed_at(stack, placements, 0);
     if !may_open(kind, x) {
         return false;
     }
     for i in 1..stack.len() {
-        let y = placed_at(stack, flat, i);
+        let y = placed_at(stack, placements, i);
         if !may_stand_next(kind, x, y) {
             return false;
         }

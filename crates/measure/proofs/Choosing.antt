@@ -1,5 +1,5 @@
 -- The ways in which choosing ends.
-use Rattle.std.proofs.Common.{◌≡◌, ℕ, ◌*◌, ◌/◌, ◌≤◌, List, [], Option, Some, length, take, ltb, refl, sym, ◌∙◌, arith}
+use Rattle.std.proofs.Common.{◌≡◌, ℕ, ◌*◌, ◌/◌, ◌≤◌, List, [], Option, Some, length, ltb, refl, sym, ◌∙◌, arith}
 use borrow.Author.Tests.{ltb-false}
 use Rattle.terms.specs.declared.Component.{Component}
 use Rattle.terms.specs.declared.Kind.{Kind}
@@ -8,7 +8,7 @@ use Rattle.terms.specs.Answer.{Answer, refusal, result}
 use Rattle.terms.specs.Pieces.{stack_in}
 use Rattle.terms.proofs.Answers.{passed}
 use Rattle.stack.specs.File.{check_of}
-use Rattle.stack.proofs.Reading.{Held, components_held}
+use Rattle.stack.proofs.Reading.{Held, components_held, count_held}
 use Rattle.folding.specs.declared.Outline.{Outline}
 use Rattle.folding.specs.declared.Winner.{Winner}
 use Rattle.folding.specs.declared.Winner.TheVariants.{First, Second}
@@ -34,20 +34,20 @@ pub chose_refused : (kind : Kind) (file first second : List ℕ) (k : ℕ) → c
 chose_refused kind file first second k e = rw e
 
 -- What was chosen by the pieces that were read.
-module _ {kind : Kind} {file : List ℕ} {n : ℕ} {room : List Piece} (h : Held kind file n room) (first second : List ℕ) {r w : Option Winner}
-    (e : r ≡ better_in kind (stack_in (take n room)) first second) (i : r ≡ w) where
+module _ {kind : Kind} {file : List ℕ} {s : List Piece} (h : Held kind file s) (first second : List ℕ) {r w : Option Winner}
+    (e : r ≡ better_in kind (stack_in s) first second) (i : r ≡ w) where
   outcome : winner_is (measure_in kind h.components first) (measure_in kind h.components second) ≡ w
   outcome = sym (rw (components_held h) at e) ∙ i
 
-  pub chose : winners_part n w first second ≡ choose_of kind file first second
-  chose = rw (h.checked, outcome, h.count)
+  pub chose : winners_part (length s) w first second ≡ choose_of kind file first second
+  chose = rw (h.checked, outcome, count_held h)
 
-  pub first_long : w ≡ Some First → 3 * n ≤ length first
+  pub first_long : w ≡ Some First → 3 * length s ≤ length first
   first_long f =
       let v = first_measured (measure_in kind h.components first) (measure_in kind h.components second) (outcome ∙ f) in
-      omega (arith, long kind h.components first v.0 v.1, h.count)
+      omega (arith, long kind h.components first v.0 v.1, count_held h)
 
-  pub second_long : w ≡ Some Second → 3 * n ≤ length second
+  pub second_long : w ≡ Some Second → 3 * length s ≤ length second
   second_long f =
       let v = second_measured (measure_in kind h.components first) (measure_in kind h.components second) (outcome ∙ f) in
-      omega (arith, long kind h.components second v.0 v.1, h.count)
+      omega (arith, long kind h.components second v.0 v.1, count_held h)

@@ -9,34 +9,33 @@ ghost use Rattle.folding.specs.Asks.{StackIn};
 ghost use Rattle.measure.specs.Inner.{better_in};
 
 use folding::{Outline, Winner};
-use terms::{Kind, MOST_APART, Piece, Refusal};
+use stack::Stack;
+use terms::{Kind, Piece, Refusal};
 
-// Measures a stack.
+// Measures a folding of a stack. Placements past those of its components are not read.
 fn measure_stack(kind: Kind, stack: &[Piece], flat: &[u32]) -> Result<Outline, Refusal>
     requires { columns stack.now StackIn }
     ensures { answer_of result ≡ measure_in kind (stack_in stack.now) flat.now }
 {
-    if flat.len() / 3 < stack.len() {
-        return Err(Refusal::ShortBuffer);
-    }
-    if !legality::is_legal(kind, stack, flat) {
+    let (whole, _) = flat.as_chunks::<3>();
+    let placements = whole.get(..stack.len()).ok_or(Refusal::ShortBuffer)?;
+    if !legality::is_legal(kind, stack, placements) {
         return Err(Refusal::BrokenFolding);
     }
-    Ok(outline::outline_of(stack, flat))
+    Ok(outline::outline_of(stack, placements))
 }
 
 pub fn measure(file: &[u8], kind: Kind, flat: &[u32]) -> Result<Outline, Refusal>
     ensures { answer_of result ≡ measure_of kind file.now flat.now }
 {
-    let mut room = [Piece::NONE; MOST_APART];
-    let n = stack::read_pieces(file, kind, &mut room)?;
-    measure_stack(kind, &room[..n], flat)
+    let stack = Stack::read(file, kind)?;
+    measure_stack(kind, stack.pieces(), flat)
 }
 
 fn second_wins(o: Outline, p: Outline) -> bool
     ensures { result ≡ second_wins o p }
 {
-    (p.width, p.height) < (o.width, o.height)
+    p < o
 }
 
 // Which of two measured foldings wins, or neither where measuring refused one of them.
@@ -63,12 +62,12 @@ fn better_of(kind: Kind, stack: &[Piece], first: &[u32], second: &[u32]) -> Opti
 pub fn choose<'a>(file: &[u8], kind: Kind, first: &'a [u32], second: &'a [u32]) -> &'a [u32]
     ensures { result.now ≡ choose_of kind file.now first.now second.now }
 {
-    let mut room = [Piece::NONE; MOST_APART];
-    let Ok(n) = stack::read_pieces(file, kind, &mut room) else {
+    let Ok(stack) = Stack::read(file, kind) else {
         return &first[..0];
     };
-    let end = 3 * n;
-    match better_of(kind, &room[..n], first, second) {
+    let pieces = stack.pieces();
+    let end = 3 * pieces.len();
+    match better_of(kind, pieces, first, second) {
         Some(Winner::First) => &first[..end],
         Some(Winner::Second) => &second[..end],
         None => &first[..0],

@@ -17,9 +17,6 @@ use Rattle.model.proofs.Choice.{no_wider}
 abbrev pub Below : (ℕ → Layout) → ℕ → ℕ → Type 0
 Below best w lim = (k : ℕ) → lim ≡ k + 1 → w < (best k).width
 
-pub below_next : (best : ℕ → Layout) (w k : ℕ) → w < (best k).width → Below best w (k + 1)
-below_next best w k h j e = let z : k ≡ j = omega arith in rw z at h
-
 module _ {F : Type 0} {Legal : F → Type 0} {outline_of : F → Outline} {best : ℕ → Layout} (s : Search Legal outline_of best) where
   -- For a height.
   pub others_wider : (limit : ℕ) (other : F) → Legal other → (outline_of other).height.0 ≤ limit → Wider (outline_by (best limit)) (outline_of other)

@@ -51,7 +51,7 @@ pub fn barred(stack: &[Piece], i: usize) -> bool
 pub fn component(stack: &[Piece], i: usize) -> Component
     requires { i < length stack.now }
     ensures value { result ≡ columns stack.now component_in i }
-    ensures height_bound { result.height.0 < 65536 }
+    ensures upper_bounds { (result.height.0 < 65536) × (result.width.0 < 65536) × (result.gap.0 < 65536) }
 {
     Component::from(stack[i])
 }

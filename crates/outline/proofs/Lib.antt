@@ -3,3 +3,4 @@ pub mod Placing
 pub mod Chains
 pub mod Sweep
 pub mod Walk
+pub mod Runs

@@ -1,4 +1,4 @@
--- The outline of placed components that stand in lists: each of its parts as the code finds it, index by index.
+-- The outline of placed components that stand in columns: each of its parts as the code finds it, index by index.
 use Prim.Native.Nat.{ℕ, zero, suc, ◌+◌, ◌-◌, ◌≤◌, ◌<◌, max}
 use mathlib.Core.Path.{◌≡◌, refl, sym, ap, subst, ◌∙◌}
 use mathlib.Core.Logic.{◌⊎◌, inl, inr}
@@ -12,6 +12,7 @@ use borrow.Author.Tests.{lt-ltb, le-ltb, eq-eqb, ne_eqb}
 use Rattle.terms.specs.Component.{tabulate}
 use Rattle.terms.specs.Seams.{gap_at}
 use Rattle.terms.proofs.Tabulate.{tabulate-drop, tabulate_end, tabulate_front, tabulate_same}
+use Rattle.folding.specs.declared.Placement.{Placement}
 use Rattle.folding.specs.declared.Placed.{Placed}
 use Rattle.folding.specs.Placement.{width_of, gap_of, group_of, end_of, left}
 use Rattle.folding.specs.Outline.{top_of, takes, row_sum, greatest, last_gap, folded, fold_gap, group_height, groups_of}
@@ -114,10 +115,10 @@ module _ (g : ℕ → Placed) (n : ℕ) (from to : ℕ) (within : to ≤ n) (sam
       subst (λ (d : ℕ). groups_of (drop from (tabulate g n)) ≡ tabulate (λ j. g (from + j)) d ∷ groups_of (drop to (tabulate g n))) e
       (cut_from (to - from - 1) from (omega arith) (omega arith))
 
--- The height of a group that stands in lists.
-module _ (hs ws seams flat : List ℕ) (k : ℕ) (some : 0 < length hs) (first : side_at flat 0 ≡ 0) (l : Lefts flat (length hs) k) (g0 : ℕ) where
+-- The height of a group that stands in columns.
+module _ (hs ws seams : List ℕ) (ps : List Placement) (k : ℕ) (some : 0 < length hs) (first : side_at ps 0 ≡ 0) (l : Lefts ps (length hs) k) (g0 : ℕ) where
   g : ℕ → Placed
-  g = placed_at hs ws seams flat
+  g = placed_at hs ws seams ps
 
   pub has_left : 0 < k
   has_left = go (eq-or-lt_of_le {n = 0} {m = k} (omega arith))
@@ -126,22 +127,22 @@ module _ (hs ws seams flat : List ℕ) (k : ℕ) (some : 0 < length hs) (first :
       go (inl e) = absurd (l.next (omega arith) (rw (← e) first))
       go (inr h) = h
 
-  last : last_gap (placed_in hs ws seams flat) ≡ gap_at seams (length hs - 1)
+  last : last_gap (placed_in hs ws seams ps) ≡ gap_at seams (length hs - 1)
   unfolding g
   last =
       let e : suc (length hs - 1) ≡ length hs = omega arith in
       subst (λ (n : ℕ). last_gap (tabulate g n) ≡ gap_at seams (length hs - 1)) e (gap_tabulate g (length hs - 1))
 
-  fold : folded (placed_in hs ws seams flat) ≡ ltb k (length hs)
+  fold : folded (placed_in hs ws seams ps) ≡ ltb k (length hs)
   unfolding g
   fold = folded_tabulate g (length hs) k l.within (λ i h. eq-eqb _ _ (l.on_the_left i h)) (λ h. ne_eqb _ _ (l.next h))
 
-  pub height_folded : k < length hs → group_height g0 (placed_in hs ws seams flat) ≡ greatest (end_at hs flat) (length hs) + max g0 (gap_at seams (length hs - 1)) + gap_at seams (k - 1)
+  pub height_folded : k < length hs → group_height g0 (placed_in hs ws seams ps) ≡ greatest (end_at hs ps) (length hs) + max g0 (gap_at seams (length hs - 1)) + gap_at seams (k - 1)
   unfolding g
   height_folded h =
-      let f : fold_gap (placed_in hs ws seams flat) ≡ gap_at seams (k - 1) = fold_tabulate g (length hs) k l.within (λ i m. eq-eqb _ _ (l.on_the_left i m)) (λ m. ne_eqb _ _ (l.next m)) h has_left in
+      let f : fold_gap (placed_in hs ws seams ps) ≡ gap_at seams (k - 1) = fold_tabulate g (length hs) k l.within (λ i m. eq-eqb _ _ (l.on_the_left i m)) (λ m. ne_eqb _ _ (l.next m)) h has_left in
       rw (fold, lt-ltb k (length hs) h, top_tabulate g (length hs), last, f)
 
-  pub height_flat : length hs ≤ k → group_height g0 (placed_in hs ws seams flat) ≡ greatest (end_at hs flat) (length hs) + g0 + gap_at seams (length hs - 1)
+  pub height_flat : length hs ≤ k → group_height g0 (placed_in hs ws seams ps) ≡ greatest (end_at hs ps) (length hs) + g0 + gap_at seams (length hs - 1)
   unfolding g
   height_flat h = rw (fold, le-ltb k (length hs) h, top_tabulate g (length hs), last)

@@ -5,11 +5,10 @@ use mathlib.Core.Logic.{◌⊎◌, inl, inr}
 use mathlib.Core.List.{List, []}
 use native.Mathlib.Nat.{eq-or-lt_of_le}
 use native.Mathlib.Omega.{arith}
-use lib.ListN.{length, get_or, drop, set, length-drop}
+use lib.ListN.{length, get_or, drop, set, length-drop, length-map}
 use lib.Seq.{get_or-drop, get_or-set_same, get_or-set_other}
 use Rattle.terms.specs.declared.Component.{Component}
 use Rattle.terms.specs.declared.Kind.{Kind}
-use Rattle.terms.proofs.Answers.{most_256}
 use Rattle.terms.specs.Seams.{gap_at, component_in, components_in}
 use Rattle.group.specs.Rows.{gap}
 use Rattle.group.specs.Group.{may_stand}
@@ -18,11 +17,10 @@ use Rattle.model.proofs.Falling.{layouts_fall}
 use Rattle.model.specs.Layout.{candidate_for}
 use Rattle.model.proofs.Scan.{layouts-drop, layouts_end}
 use Rattle.layout.specs.Layout.{Layout, unmet, empty, groups, layouts, layout_of}
-use Rattle.layout.specs.Plan.{PlannedAt}
+use Rattle.layout.specs.Plan.{layout_in, PlannedAt, lists}
 use Rattle.layout.specs.declared.Entry.{Entry}
-use Rattle.plan.specs.Asks.{layout_in, Later, FirstAsks, FromAsks, PlanAsks, PlannedFrom, gap_before, plan_room, KnownTo}
-use Rattle.plan.specs.Memory.{most_row, RowAsks, RowDone, RowRoom, Readied, EntryAsks, EntryDone, Known}
-use Rattle.plan.proofs.Remembering.{row_start, row_asks, row_room, rows_from, rows_to, rows_none, rows_known, row_low}
+use Rattle.plan.specs.Asks.{Later, FirstAsks, FromAsks, PlanAsks, PlannedFrom, KnownTo, EntryAsks, EntryDone, gap_before}
+use Rattle.plan.specs.Memory.{Known}
 use Rattle.plan.proofs.Columns.{component_at_lem, gap_last}
 use Rattle.layout.proofs.Groups.{groups_laws}
 use Rattle.layout.proofs.Columns.{components_length, components_drop, lists_drop, good_lists}
@@ -90,7 +88,7 @@ known-set {widths = widths} {heights = heights} {ends = ends} i a b c h k = reco
       rw (get_or-set_other widths i j a 0 n, get_or-set_other heights i j b 0 n, get_or-set_other ends i j c 0 n) (k.at l j (omega arith));
 }
 
--- The three lists that are filled.
+-- The entries that are filled.
 module _ {kind : Kind} {limit : ℕ} {hs ws gs widths heights ends es : List ℕ} (a : PlanAsks kind limit hs ws gs widths heights ends es) where
   abbrev cs : List Component
   cs = components_in hs ws gs
@@ -100,20 +98,6 @@ module _ {kind : Kind} {limit : ℕ} {hs ws gs widths heights ends es : List ℕ
 
   at_end : get_or (layouts kind limit 0 (components_in hs ws gs)) (length hs) unmet ≡ empty
   at_end = ap (λ (z : ℕ). get_or (layouts kind limit 0 cs) z unmet) (sym long) ∙ layouts_end (λ x. gap x) (candidate_for (groups kind) limit) cs 0
-
-  -- With other lists of the same lengths, for a limit that is no higher.
-  pub asks_again : {limit' : ℕ} {widths' heights' ends' es' : List ℕ} → limit' ≤ limit → length widths' ≡ length widths → length heights' ≡ length heights → length ends' ≡ length ends → plan_room kind ≤ length es'
-      → PlanAsks kind limit' hs ws gs widths' heights' ends' es'
-  asks_again h lw lh le room = record {
-    lists = a.lists;
-    some = a.some;
-    free = a.free;
-    limit_most = omega (arith, a.limit_most);
-    widths_long = omega (arith, a.widths_long);
-    heights_long = omega (arith, a.heights_long);
-    ends_long = omega (arith, a.ends_long);
-    room = room;
-  }
 
   plan_start : PlannedFrom kind limit (components_in hs ws gs) (set widths (length hs) 0) (set heights (length hs) 0) (set ends (length hs) 0) (length hs)
   plan_start = record {
@@ -130,22 +114,33 @@ module _ {kind : Kind} {limit : ℕ} {hs ws gs widths heights ends es : List ℕ
       → KnownTo kind known limit (components_in hs ws gs) (set widths (length hs) 0) (set heights (length hs) 0) (set ends (length hs) 0) (length hs)
   known_start k = known-set {widths = widths} {heights = heights} {ends = ends} {to = length hs} (length hs) 0 0 0 (omega arith) (record { at = λ l j h. (k l).0.at j (omega (arith, long)) })
 
-  pub rows_start : {known : ℕ} → Known kind known limit hs ws gs widths heights ends es → EntryDone kind known limit (length hs) hs ws gs (set widths (length hs) 0) (set heights (length hs) 0) (set ends (length hs) 0) es
-  rows_start {known} k = record {
-    behind = plan_start;
-    before = known_start k;
-    rows_behind = rows_none kind limit hs ws gs es;
-    rows_before = rows_known kind known limit hs ws gs es (λ l. (k l).1);
-  }
+  pub entries_start : {known : ℕ} → Known kind known limit hs ws gs widths heights ends es → EntryDone kind known limit (length hs) hs ws gs (set widths (length hs) 0) (set heights (length hs) 0) (set ends (length hs) 0)
+  entries_start k = record { behind = plan_start; before = known_start k }
 
-module _ {kind : Kind} {known limit i row : ℕ} {hs ws gs widths heights ends es : List ℕ} (a : EntryAsks kind known limit i row hs ws gs widths heights ends es) where
+-- The next entry.
+pub entry_next : {kind : Kind} {known limit i later : ℕ} {hs ws gs es : List ℕ} (p q : List Entry) → length q ≡ length p → i + 1 ≡ later → later ≤ length hs → lists p (PlanAsks kind limit hs ws gs) es → lists q (EntryDone kind known limit later hs ws gs)
+    → lists q (EntryAsks kind known limit i hs ws gs)
+entry_next {i = i} {later = later} p q l e h a d =
+    let z : suc i ≡ later = omega arith in
+    record {
+      lists = a.lists;
+      within = omega arith;
+      limit_most = a.limit_most;
+      widths_long = omega (arith, a.widths_long, length-map p (λ (b : Entry). b.width.0), length-map q (λ (b : Entry). b.width.0));
+      heights_long = omega (arith, a.heights_long, length-map p (λ (b : Entry). b.height.0), length-map q (λ (b : Entry). b.height.0));
+      ends_long = omega (arith, a.ends_long, length-map p (λ (b : Entry). b.end), length-map q (λ (b : Entry). b.end));
+      behind = rw z d.behind;
+      before = rw z d.before;
+    }
+
+module _ {kind : Kind} {known limit i : ℕ} {hs ws gs widths heights ends : List ℕ} (a : EntryAsks kind known limit i hs ws gs widths heights ends) where
   pub from_asks : FromAsks kind limit i hs ws gs widths heights
   from_asks = record {
-    lists = a.asks.lists;
+    lists = a.lists;
     within = a.within;
-    limit_most = a.asks.limit_most;
-    widths_long = a.asks.widths_long;
-    heights_long = a.asks.heights_long;
+    limit_most = a.limit_most;
+    widths_long = a.widths_long;
+    heights_long = a.heights_long;
     width_is = λ j h k. (a.behind.at j h (omega (arith, components_length hs ws gs))).width_is;
     height_is = λ j h k. (a.behind.at j h (omega (arith, components_length hs ws gs))).height_is;
   }
@@ -158,9 +153,9 @@ module _ {kind : Kind} {known limit i row : ℕ} {hs ws gs widths heights ends e
       go : (j : ℕ) → j ≤ length (components_in hs ws gs) → (i ≡ j) ⊎ (i < j)
           → PlannedAt (get_or (layouts kind limit 0 (components_in hs ws gs)) j unmet) (get_or (set widths i b.width.0) j 0) (get_or (set heights i b.height.0) j 0) (get_or (set ends i b.end) j 0)
       go j k (inl q) = rw (← q, ← f) (record {
-        width_is = get_or-set_same widths i b.width.0 0 (omega (arith, a.within, a.asks.widths_long));
-        height_is = get_or-set_same heights i b.height.0 0 (omega (arith, a.within, a.asks.heights_long));
-        end_is = get_or-set_same ends i b.end 0 (omega (arith, a.within, a.asks.ends_long));
+        width_is = get_or-set_same widths i b.width.0 0 (omega (arith, a.within, a.widths_long));
+        height_is = get_or-set_same heights i b.height.0 0 (omega (arith, a.within, a.heights_long));
+        end_is = get_or-set_same ends i b.end 0 (omega (arith, a.within, a.ends_long));
       })
       go j k (inr q) =
           let n : j ≡ i → ⊥ = λ z. omega arith in
@@ -176,7 +171,7 @@ module _ {kind : Kind} {known limit i row : ℕ} {hs ws gs widths heights ends e
 
     same_layout : get_or (layouts kind limit 0 (components_in hs ws gs)) i unmet ≡ get_or (layouts kind known 0 (components_in hs ws gs)) i unmet
     same_layout =
-        (layouts_fall (groups_laws kind (λ last. may_stand kind) (λ last. suits kind)) known limit (omega arith) (omega (arith, a.asks.limit_most)) 0 (components_in hs ws gs) (good_lists a.asks.lists) i
+        (layouts_fall (groups_laws kind (λ last. may_stand kind) (λ last. suits kind)) known limit (omega arith) (omega (arith, a.limit_most)) 0 (components_in hs ws gs) (good_lists a.lists) i
         ).stays (omega (arith, entry.height_is))
 
     plan_stays : PlannedFrom kind limit (components_in hs ws gs) widths heights ends i
@@ -189,33 +184,10 @@ module _ {kind : Kind} {known limit i row : ℕ} {hs ws gs widths heights ends e
     known_stays : KnownTo kind known limit (components_in hs ws gs) widths heights ends i
     known_stays = record { at = λ l j h. a.before.at l j (omega arith) }
 
-  -- The row of its first groups.
-  pub entry_room : RowRoom kind row (length hs - i) es
-  entry_room = rw a.row_is (row_room hs ws gs i a.within kind es a.asks.room a.asks.lists.few)
+  -- Both ways in which it is planned.
+  pub entry_stays : limit < known → get_or heights i 0 ≤ limit → EntryDone kind known limit i hs ws gs widths heights ends
+  entry_stays lower keeps = record { behind = plan_stays lower keeps; before = known_stays lower keeps }
 
-  pub row_most : row ≤ most_row
-  row_most = omega (arith, a.row_is, row_low (length hs - i) (omega (arith, a.asks.lists.few, most_256 kind)))
-
-  module _ (mid : List ℕ) (r : Readied kind known limit es mid row (length hs - i)) where
-    pub entry_row : RowAsks kind limit (gap_before gs i) (drop i hs) (drop i ws) (drop i gs) mid row
-    entry_row = rw a.row_is (row_asks hs ws gs i a.within kind known limit es mid a.asks.room a.asks.lists.few a.rows_before (rw a.row_is at r))
-
-    -- Both ways in which it is planned.
-    pub entry_stays : limit < known → get_or heights i 0 ≤ limit → EntryDone kind known limit i hs ws gs widths heights ends mid
-    entry_stays lower keeps =
-        let d = rw a.row_is at (row_start limit (gap_before gs i) row (drop i hs) (drop i ws) (drop i gs) kind mid entry_row) in
-        record {
-          behind = plan_stays lower keeps;
-          before = known_stays lower keeps;
-          rows_behind = rows_from hs ws gs i a.within kind known limit es mid mid (rw a.row_is at r) d a.rows_behind;
-          rows_before = rows_to hs ws gs i a.within kind known limit es mid mid (rw a.row_is at r) d a.rows_before;
-        }
-
-    pub entry_more : (new : List ℕ) (b : Entry) → layout_in b ≡ get_or (layouts kind limit 0 (components_in hs ws gs)) i unmet → RowDone kind limit (gap_before gs i) (drop i hs) (drop i ws) (drop i gs) mid new row
-        → EntryDone kind known limit i hs ws gs (set widths i b.width.0) (set heights i b.height.0) (set ends i b.end) new
-    entry_more new b f d = record {
-      behind = plan_more b f;
-      before = known_more b;
-      rows_behind = rows_from hs ws gs i a.within kind known limit es mid new (rw a.row_is at r) (rw a.row_is at d) a.rows_behind;
-      rows_before = rows_to hs ws gs i a.within kind known limit es mid new (rw a.row_is at r) (rw a.row_is at d) a.rows_before;
-    }
+  pub entry_more : (b : Entry) → layout_in b ≡ get_or (layouts kind limit 0 (components_in hs ws gs)) i unmet
+      → EntryDone kind known limit i hs ws gs (set widths i b.width.0) (set heights i b.height.0) (set ends i b.end)
+  entry_more b f = record { behind = plan_more b f; before = known_more b }

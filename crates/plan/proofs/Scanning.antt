@@ -1,5 +1,5 @@
 -- The search over all first groups.
-use Prim.Native.Nat.{ℕ, suc, ◌+◌, ◌≤◌, ◌<◌, min, max}
+use Prim.Native.Nat.{ℕ, suc, ◌+◌, ◌≤◌, ◌<◌, max}
 use mathlib.Core.Path.{◌≡◌, refl, sym, ap, ◌∙◌}
 use mathlib.Core.Logic.{◌⊎◌, inl, inr}
 use mathlib.Core.List.{List}
@@ -7,22 +7,28 @@ use native.Mathlib.Numerals.{add-one}
 use native.Mathlib.Omega.{arith}
 use lib.ListN.{length, get_or, take}
 use lib.Seq.{length-take-le}
+use Rattle.std.specs.Prelude.{Option, Some, None}
+use Rattle.std.specs.Option.{unwrap_or}
+use Rattle.std.proofs.lemmas.Bool.{ltb-true}
+use Rattle.std.proofs.lemmas.Option.{cond_some}
 use Rattle.terms.specs.declared.Component.{Component}
 use Rattle.terms.specs.declared.Kind.{Kind}
 use Rattle.terms.specs.declared.Piece.{Piece}
-use Rattle.terms.specs.Pieces.{heights_in, widths_in, seams_in, stack_in, columns}
+use Rattle.terms.specs.declared.Slices.{Slices}
+use Rattle.terms.specs.Pieces.{heights_in, stack_in, columns}
 use Rattle.terms.proofs.Answers.{most_256}
 use Rattle.terms.proofs.Order.{order}
 use Rattle.terms.proofs.Pieces.{heights_length}
+use Rattle.folding.specs.declared.Outline.{Outline}
 use Rattle.group.specs.Rows.{gap, tall}
 use Rattle.group.specs.Group.{none, widest}
 use Rattle.layout.specs.Layout.{Layout, unmet, groups, candidate, choice, layouts, layout_of}
-use Rattle.layout.specs.Plan.{extents}
+use Rattle.layout.specs.Plan.{layout_in, outline_in, extents}
 use Rattle.layout.specs.declared.Entry.{Entry}
 use Rattle.plan.specs.declared.Sizes.{Sizes}
-use Rattle.plan.specs.Asks.{layout_in, GroupAsks, tried, most_rows, SizesOf, FirstAsks, Under, best_to}
+use Rattle.plan.specs.Asks.{GroupAsks, tried, most_rows, SizesOf, FirstAsks, Under, best_to}
 use Rattle.plan.proofs.Columns.{stack_length, stack_take, stack_lists_take, entry_at, width_at, height_at}
-use Rattle.plan.proofs.Sizing.{SizesTo, sizes_start, sizes_more}
+use Rattle.plan.proofs.Sizing.{no_piece, SizesTo, sizes_start, sizes_more}
 use Rattle.model.specs.Layout.{NoWorse, candidate_for}
 use Rattle.model.proofs.Choice.{no_wider, no_wider_nor_higher, Fair, fair_choice, Below, below_choice}
 use Rattle.model.proofs.Scan.{layouts_fair}
@@ -41,11 +47,16 @@ fair_step c b r e f = rw e (fair_choice c b f)
 no_worse_step : (l c c' u b : Layout) → b ≡ choice c u → c ≡ c' → NoWorse l (choice c' u).width (choice c' u).height → NoWorse l b.width b.height
 no_worse_step l c c' u b e f n = rw (e, f) n
 
+-- A width to start from: the best layout stays under it, or it is over every layout.
+abbrev pub Starts : Kind → ℕ → ℕ → List Component → ℕ → Type 0
+Starts kind limit g0 cs bound = (bound ≤ none) × (bound < none → (layout_of kind limit g0 cs).width < bound)
+
 -- All first groups of at most k components are searched for layouts under the bound.
 pub record Scanned (kind : Kind) (limit g0 bound : ℕ) (s : List Piece) (best : Entry) (z : Sizes) (k : ℕ) : Type 0 where
+  pub starts : Starts kind limit g0 (stack_in s) bound
   pub best_is : Below bound (best_to kind limit g0 (stack_in s) k) (layout_in best)
   pub fair : Fair (layout_in best)
-  pub sizes : SizesTo (heights_in s) (widths_in s) z k
+  pub sizes : SizesTo s z k
 
 -- In place of a layout, before one is found: any that is narrower is better.
 abbrev pub start : ℕ → Entry
@@ -87,63 +98,76 @@ module _ {kind : Kind} {limit g0 : ℕ} (s : List Piece) (p : List Entry) (a : e
         rw (part, heights_length (take (j + 1) s), few, add-one j)
         (same_rest kind limit g0 (take (suc j) cs) (layout_in (entry_at p j)) (get_or (layouts kind limit g0 cs) (suc j) unmet) (suc j) (width_at p j ∙ a.later.width_is j lk) (height_at p j ∙ a.later.height_is j lk))
 
-  -- The best layout stays under the bound.
-  module _ (bound : ℕ) (under : Under kind limit g0 (stack_in s) bound) where
-    start_fair : (b : ℕ) → b ≤ none → Fair (record { width = b; height = none; end = 0 })
-    start_fair b h = no_wider_nor_higher h (λ e. omega arith)
+  -- The best layout stays under the bound. Without one the search starts at `none`.
+  starts : (bound : Option Slices) → Under kind limit g0 (stack_in s) bound → Starts kind limit g0 (stack_in s) (unwrap_or bound (record { 0 = none })).0
+  starts None u = (omega arith, λ h. absurd (omega arith))
+  starts (Some b) u = (u.0, λ h. u.1)
 
-    start_below : (bound < none) ⊎ (none ≤ bound) → Below bound (best_to kind limit g0 (stack_in s) 0) (record { width = bound; height = none; end = 0 })
-    start_below (inl h) = inr (h, rw (best_none kind limit g0 cs) (omega arith), omega arith)
-    start_below (inr h) = let e : bound ≡ none = omega (arith, under.0) in rw e (inl (sym (best_none kind limit g0 cs)))
+  scan_from : (bound : ℕ) → Starts kind limit g0 (stack_in s) bound → Scanned kind limit g0 bound s (start bound) (record { tall = record { 0 = 0 }; widest = record { 0 = 0 } }) 0
+  scan_from bound p = record {
+    starts = p;
+    best_is = below (order none bound);
+    fair = no_wider_nor_higher p.0 (λ e. omega arith);
+    sizes = sizes_start s;
+  }
+    where
+      below : (none ≤ bound) ⊎ (bound < none) → Below bound (best_to kind limit g0 (stack_in s) 0) (layout_in (start bound))
+      below (inr h) = inr (h, rw (best_none kind limit g0 cs) (omega arith), omega arith)
+      below (inl h) = let e : bound ≡ none = omega (arith, p.0) in rw e (inl (sym (best_none kind limit g0 cs)))
 
-    pub scan_start : Scanned kind limit g0 bound s (start bound) (record { tall = record { 0 = 0 }; widest = record { 0 = 0 } }) 0
-    scan_start = record { best_is = start_below (swap (order none bound)); fair = start_fair bound under.0; sizes = sizes_start (heights_in s) (widths_in s) }
-      where
-        swap : (none ≤ bound) ⊎ (bound < none) → (bound < none) ⊎ (none ≤ bound)
-        swap (inl p) = inr p
-        swap (inr p) = inl p
+  pub scan_start : (bound : Option Slices) → Under kind limit g0 (stack_in s) bound
+      → Scanned kind limit g0 (unwrap_or bound (record { 0 = none })).0 s (start (unwrap_or bound (record { 0 = none })).0) (record { tall = record { 0 = 0 }; widest = record { 0 = 0 } }) 0
+  scan_start bound u = scan_from _ (starts bound u)
 
-    found : (r l : Layout) → l ≡ layout_of kind limit g0 (stack_in s) → Below bound l r → r ≡ layout_of kind limit g0 (stack_in s)
-    found r l e (inl p) = p ∙ e
-    found r l e (inr p) = absurd (omega (arith, p.1, ap (λ (z : Layout). z.width) e, under.1 p.0))
+  module _ {bound : ℕ} {best : Entry} {z : Sizes} {k : ℕ} (t : Scanned kind limit g0 bound s best z k) where
+    found : (l : Layout) → l ≡ layout_of kind limit g0 (stack_in s) → Below bound l (layout_in best) → layout_in best ≡ layout_of kind limit g0 (stack_in s)
+    found l e (inl p) = p ∙ e
+    found l e (inr p) = absurd (omega (arith, p.1, ap (λ (z : Layout). z.width) e, t.starts.1 p.0))
 
-    module _ {best : Entry} {z : Sizes} {k : ℕ} (t : Scanned kind limit g0 bound s best z k) where
-      pub scan_done : k ≡ length s → layout_in best ≡ layout_of kind limit g0 (stack_in s)
-      scan_done h =
-          let e : k ≡ length cs = omega (arith, long) in
-          found _ _ (ap (λ (z : ℕ). best_to kind limit g0 cs z) e ∙ best_of_all kind limit g0 cs (omega (arith, long, heights_length s, a.some))) t.best_is
+    pub scan_done : k ≡ length s → layout_in best ≡ layout_of kind limit g0 (stack_in s)
+    scan_done h =
+        let e : k ≡ length cs = omega (arith, long) in
+        found _ (ap (λ (z : ℕ). best_to kind limit g0 cs z) e ∙ best_of_all kind limit g0 cs (omega (arith, long, heights_length s, a.some))) t.best_is
 
-      -- With one more component.
-      module _ (h : k < length s) {z' : Sizes} (et : z'.tall.0 ≡ z.tall.0 + get_or (heights_in s) k 0) (ew : z'.widest.0 ≡ max z.widest.0 (get_or (widths_in s) k 0)) where
-        more : SizesTo (heights_in s) (widths_in s) z' (k + 1)
-        more = sizes_more a.lists.low (omega (arith, heights_length s)) t.sizes et ew
+    -- With one more component.
+    module _ (h : k < length s) {z' : Sizes} (et : z'.tall.0 ≡ z.tall.0 + (get_or s k no_piece).height) (ew : z'.widest.0 ≡ max z.widest.0 (get_or s k no_piece).width) where
+      more : SizesTo s z' (k + 1)
+      more = sizes_more s a.lists.low h t.sizes et ew
 
-        pub scan_stop : most_rows kind limit < z'.tall.0 → layout_in best ≡ layout_of kind limit g0 (stack_in s)
-        scan_stop l =
-            let e : z'.tall.0 ≡ tall (take (suc k) (stack_in s)) = rw (add-one k) at (more.tall_is (seams_in s)) in
-            found _ _ (sym (best_stop kind limit g0 cs (length cs) k (omega (arith, long)) (omega (arith, e))) ∙ best_of_all kind limit g0 cs (omega (arith, long)))
-            t.best_is
+      pub scan_stop : most_rows kind limit < z'.tall.0 → layout_in best ≡ layout_of kind limit g0 (stack_in s)
+      scan_stop l =
+          let e : z'.tall.0 ≡ tall (take (suc k) (stack_in s)) = rw (add-one k) at more.tall_is in
+          found _ (sym (best_stop kind limit g0 cs (length cs) k (omega (arith, long)) (omega (arith, e))) ∙ best_of_all kind limit g0 cs (omega (arith, long)))
+          t.best_is
 
-        pub next_asks : columns (take (k + 1) s) (GroupAsks kind limit g0 z') best (entry_at p k)
-        next_asks = group_asks k h (more.tall_is (seams_in s)) (omega (arith, more.low, heights_length s, a.lists.few, most_256 kind)) (more.widest_is (seams_in s)) t.fair
+      pub next_asks : columns (take (k + 1) s) (GroupAsks kind limit g0 z') best (entry_at p k)
+      next_asks = group_asks k h more.tall_is (omega (arith, more.low, heights_length s, a.lists.few, most_256 kind)) more.widest_is t.fair
 
-        pub scan_more : (r : Entry) → layout_in r ≡ columns (take (k + 1) s) (tried kind limit g0) best (entry_at p k) → Scanned kind limit g0 bound s r z' (k + 1)
-        scan_more r e = record {
-          best_is = rw (add-one k) (below_step bound _ _ _ _ _ (layout_in r) e (candidate_same k h) (best_more kind limit g0 cs k) t.best_is);
-          fair = fair_step _ _ (layout_in r) e t.fair;
-          sizes = more;
-        }
+      pub scan_more : (r : Entry) → layout_in r ≡ columns (take (k + 1) s) (tried kind limit g0) best (entry_at p k) → Scanned kind limit g0 bound s r z' (k + 1)
+      scan_more r e = record {
+        starts = t.starts;
+        best_is = rw (add-one k) (below_step bound _ _ _ _ _ (layout_in r) e (candidate_same k h) (best_more kind limit g0 cs k) t.best_is);
+        fair = fair_step _ _ (layout_in r) e t.fair;
+        sizes = more;
+      }
 
 -- A layout whose first group ends with the component at `last` bounds the best one.
 module _ {kind : Kind} {limit g0 : ℕ} (s : List Piece) (p : List Entry) (a : extents p (columns s (FirstAsks kind limit g0))) (last : ℕ) (within : last < length s) {z : Sizes}
-    (sizes : SizesOf (heights_in s) (widths_in s) (last + 1) z) where
+    (sizes : SizesOf (stack_in (take (last + 1) s)) z) where
+  first : stack_in (take (last + 1) s) ≡ take (last + 1) (stack_in s)
+  first = stack_take s (last + 1) (omega arith)
+
   pub bound_asks : columns (take (last + 1) s) (GroupAsks kind limit g0 z) (start none) (entry_at p last)
-  bound_asks = group_asks s p a last within (sizes.tall_is (seams_in s)) (omega (arith, sizes.low)) (sizes.widest_is (seams_in s)) (inr (refl, omega arith))
+  bound_asks = group_asks s p a last within (rw first at sizes.tall_is) (omega (arith, sizes.low)) (rw first at sizes.widest_is) (inr (refl, omega arith))
 
 module _ {kind : Kind} {limit g0 : ℕ} (s : List Piece) (p : List Entry) (a : extents p (columns s (FirstAsks kind limit g0))) (last : ℕ) (within : last < length s)
     (b : Entry) (e : layout_in b ≡ columns (take (last + 1) s) (tried kind limit g0) (start none) (entry_at p last)) where
-  pub bound_under : (r : ℕ) → r ≡ min none (b.width.0 + 1) → Under kind limit g0 (stack_in s) r
-  bound_under r f = (omega arith, λ h. omega (arith, no_wider narrow))
+  pub bound_under : {o : Outline} → outline_in (layout_in b) ≡ Some o → (r : Slices) → r.0 ≡ o.width.0 + 1 → Under kind limit g0 (stack_in s) (Some r)
+  bound_under {o} m r f =
+      let c = cond_some _ _ o m in
+      let w : o.width.0 ≡ b.width.0 = ap (λ (o : Outline). o.width.0) (sym c.1) in
+      let h : b.width.0 < none = ltb-true _ _ c.0 in
+      (omega arith, omega (arith, no_wider narrow))
     where
       narrow : NoWorse (layout_of kind limit g0 (stack_in s)) (layout_in b).width (layout_in b).height
       narrow = no_worse_step (layout_of kind limit g0 (stack_in s)) _ _ unmet (layout_in b) e (candidate_same s p a last within) (best_bound kind limit g0 (stack_in s) last (omega (arith, stack_length s)))

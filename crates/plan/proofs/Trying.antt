@@ -1,29 +1,33 @@
 -- One group, tried as the first: each way in which trying it ends.
-use Prim.Native.Nat.{ℕ, ◌+◌, ◌*◌, ◌-◌, ◌≤◌, ◌<◌, min, max}
-use mathlib.Core.Path.{◌≡◌, sym, ◌∙◌}
+use Prim.Native.Nat.{ℕ, ◌+◌, ◌*◌, ◌-◌, ◌≤◌, ◌<◌, min}
+use mathlib.Core.Path.{◌≡◌, sym, subst, ◌∙◌}
 use mathlib.Core.Logic.{◌⊎◌, inl, inr}
 use mathlib.Core.List.{List, []}
-use mathlib.Core.Bool.{Bool, true, false}
+use mathlib.Core.Bool.{Bool, true, false, not}
 use native.Mathlib.Omega.{arith}
 use lib.ListN.{length, take}
+use Rattle.std.specs.Prelude.{Option, Some, None}
+use Rattle.std.proofs.lemmas.Option.{none-some, same_Some}
+use Rattle.folding.specs.declared.Outline.{Outline}
 use Rattle.terms.specs.declared.Kind.{Kind}
 use Rattle.terms.specs.declared.Kind.TheVariants.{Apart, Nested}
 use Rattle.terms.specs.declared.Piece.{Piece}
 use Rattle.terms.specs.Pieces.{heights_in, widths_in, seams_in, stack_in}
 use Rattle.terms.proofs.Pieces.{heights_length}
 use Rattle.terms.specs.Seams.{gap_at, barred_at, component_in, components_in}
-use Rattle.group.specs.Group.{none, unbarred, widest, flat_height, may_stand, least_width}
+use Rattle.group.specs.Group.{none, unbarred, widest, flat_height, may_stand, least_width, least_height}
 use Rattle.terms.proofs.Order.{order}
 use Rattle.group.proofs.Ways.{SomeWay, suits, some_way, barred_end}
-use Rattle.group.proofs.Gaps.{gap_behind_all, unbarred_behind, unbarred_behind_all}
+use Rattle.group.proofs.Gaps.{gap_behind_all, unbarred_behind}
 use Rattle.group.proofs.Falls.{apart_height}
 use Rattle.group_search.specs.Widths.{Narrow}
+use Rattle.model.specs.Outlines.{outline}
 use Rattle.group_memory.specs.Memory.{MemoryAsks}
 use Rattle.layout.specs.Layout.{Layout, groups, choice}
-use Rattle.layout.specs.Plan.{StackLists}
+use Rattle.layout.specs.Plan.{layout_in, StackLists}
 use Rattle.layout.specs.declared.Entry.{Entry}
 use Rattle.plan.specs.declared.Sizes.{Sizes}
-use Rattle.plan.specs.Asks.{layout_in, GroupAsks, tried}
+use Rattle.plan.specs.Asks.{in_front, GroupAsks, tried}
 use Rattle.plan.specs.Memory.{WordAsks}
 use Rattle.plan.proofs.Columns.{component_at_lem, widest_most, stack_take}
 use Rattle.model.proofs.Choice.{choice_keeps, choice_unmet}
@@ -52,68 +56,60 @@ module _ {kind : Kind} {limit g0 : ℕ} {z : Sizes} {hs ws gs : List ℕ} {best 
       go (inl p) = omega arith
       go (inr p) = omega (arith, p.0)
 
-  flat_is : (last : ℕ) → last ≡ gap_at gs (length hs - 1) → z.tall.0 + g0 + last ≡ flat_height g0 (components_in hs ws gs)
-  flat_is last l = omega (arith, a.tall_is, gap_behind_all hs ws gs a.some)
+  pub flat_is : {high n : ℕ} → n ≡ length hs → high ≡ z.tall.0 + g0 + gap_at gs (n - 1) → high ≡ flat_height g0 (components_in hs ws gs)
+  flat_is {high} e h =
+      let f : high ≡ z.tall.0 + g0 + gap_at gs (length hs - 1) = rw e at h in
+      omega (arith, a.tall_is, gap_behind_all hs ws gs a.some)
 
   -- A group that would end behind a barred component is none.
-  pub barred_tried : barred_at gs (length hs - 1) ≡ true → layout_in best ≡ tried kind limit g0 hs ws gs best rest
-  barred_tried e =
-      let u : unbarred (components_in hs ws gs) ≡ false = unbarred_behind_all hs ws gs a.some ∙ rw e in
-      sym (skip_group (groups kind) limit g0 true (components_in hs ws gs) (layout_in rest) (length hs) (layout_in best) a.fair (omega (arith, barred_end kind (components_in hs ws gs) g0 limit u)))
-
-  pub free_end : barred_at gs (length hs - 1) ≡ false → unbarred (components_in hs ws gs) ≡ true
-  free_end e = unbarred_behind_all hs ws gs a.some ∙ rw e
+  pub barred_tried : unbarred (components_in hs ws gs) ≡ false → layout_in best ≡ tried kind limit g0 hs ws gs best rest
+  barred_tried u = sym (skip_group (groups kind) limit g0 true (components_in hs ws gs) (layout_in rest) (length hs) (layout_in best) a.fair (omega (arith, barred_end kind (components_in hs ws gs) g0 limit u)))
 
   pub rest_none : none ≤ rest.width.0 → layout_in best ≡ tried kind limit g0 hs ws gs best rest
   rest_none h = sym (skip_rest (groups kind) limit g0 true (components_in hs ws gs) (layout_in rest) (length hs) (layout_in best) a.fair h)
 
 -- Without a fold.
-module _ {limit g0 : ℕ} {z : Sizes} {hs ws gs : List ℕ} {best rest : Entry} (a : GroupAsks Apart limit g0 z hs ws gs best rest) (last : ℕ)
-    (l : last ≡ gap_at gs (length hs - 1)) (free : unbarred (components_in hs ws gs) ≡ true) where
+module _ {limit g0 : ℕ} {z : Sizes} {hs ws gs : List ℕ} {best rest : Entry} (a : GroupAsks Apart limit g0 z hs ws gs best rest) {high : ℕ}
+    (flat : high ≡ flat_height g0 (components_in hs ws gs)) (free : unbarred (components_in hs ws gs) ≡ true) where
   some_in : SomeWay (may_stand Apart) (components_in hs ws gs)
   some_in = some_way Apart (components_in hs ws gs) (omega (arith, components_length hs ws gs, a.some)) free
 
-  flat : flat_height g0 (components_in hs ws gs) ≡ z.tall.0 + g0 + last
-  flat = sym (flat_is a last l)
-
-  pub flat_high : limit < z.tall.0 + g0 + last → layout_in best ≡ tried Apart limit g0 hs ws gs best rest
+  pub flat_high : limit < high → layout_in best ≡ tried Apart limit g0 hs ws gs best rest
   flat_high h =
       sym (rw (group_unmet (groups Apart) limit g0 true (components_in hs ws gs) (layout_in rest) (length hs) (omega (arith, apart_unmet (may_stand Apart) (suits Apart) g0 (components_in hs ws gs) limit some_in (omega (arith, flat)))))
       (choice_unmet (layout_in best) a.fair))
 
-  flat_met : (r : Layout) (height end : ℕ) → z.tall.0 + g0 + last ≤ limit → rest.width.0 < none → height ≡ max (z.tall.0 + g0 + last) rest.height.0 → end ≡ length hs
-      → r ≡ choice (record { width = z.widest.0 + rest.width.0; height = height; end = end }) (layout_in best)
-      → r ≡ tried Apart limit g0 hs ws gs best rest
-  flat_met r height end h o eh ee er =
+  flat_met : (r : Layout) (end : ℕ) → high ≤ limit → rest.width.0 < none → end ≡ length hs
+      → r ≡ choice (in_front (outline z.widest.0 high) rest end) (layout_in best) → r ≡ tried Apart limit g0 hs ws gs best rest
+  flat_met r end h o ee er =
       let w : least_width Apart g0 (components_in hs ws gs) limit ≡ widest (components_in hs ws gs) = apart_met (may_stand Apart) (suits Apart) g0 (components_in hs ws gs) limit some_in (omega (arith, flat)) in
-      rw (candidate_is (groups Apart) limit g0 true (components_in hs ws gs) (layout_in rest) (length hs) (omega (arith, w, widest_4000 Apart hs ws gs a.lists)) o, w, apart_height (may_stand Apart) g0 (components_in hs ws gs) (widest (components_in hs ws gs)) some_in (suits Apart), flat, ← a.widest_is, ← eh, ← ee) er
+      rw (candidate_is (groups Apart) limit g0 true (components_in hs ws gs) (layout_in rest) (length hs) (omega (arith, w, widest_4000 Apart hs ws gs a.lists)) o, w, apart_height (may_stand Apart) g0 (components_in hs ws gs) (widest (components_in hs ws gs)) some_in (suits Apart), ← flat, ← a.widest_is, ← ee) er
 
   -- Where the rest is none, what is made of it is wider than every layout.
-  flat_over : (r : Layout) (height end : ℕ) → none ≤ rest.width.0 → r ≡ choice (record { width = z.widest.0 + rest.width.0; height = height; end = end }) (layout_in best)
+  flat_over : (r : Layout) (end : ℕ) → none ≤ rest.width.0 → r ≡ choice (in_front (outline z.widest.0 high) rest end) (layout_in best)
       → r ≡ tried Apart limit g0 hs ws gs best rest
-  flat_over r height end o er =
-      er ∙ choice_keeps (record { width = z.widest.0 + rest.width.0; height = height; end = end }) (layout_in best) (inl (omega (arith, best_low a, wide_some a))) ∙ rest_none a o
+  flat_over r end o er =
+      er ∙ choice_keeps (in_front (outline z.widest.0 high) rest end) (layout_in best) (inl (omega (arith, best_low a, wide_some a))) ∙ rest_none a o
 
-  pub flat_tried : (r : Layout) (height end : ℕ) → z.tall.0 + g0 + last ≤ limit → height ≡ max (z.tall.0 + g0 + last) rest.height.0 → end ≡ length hs
-      → r ≡ choice (record { width = z.widest.0 + rest.width.0; height = height; end = end }) (layout_in best)
+  pub flat_tried : (r : Layout) (end : ℕ) → high ≤ limit → end ≡ length hs → r ≡ choice (in_front (outline z.widest.0 high) rest end) (layout_in best)
       → r ≡ tried Apart limit g0 hs ws gs best rest
-  flat_tried r height end h eh ee er = go (order none rest.width.0)
+  flat_tried r end h ee er = go (order none rest.width.0)
     where
       go : (none ≤ rest.width.0) ⊎ (rest.width.0 < none) → r ≡ tried Apart limit g0 hs ws gs best rest
-      go (inl o) = flat_over r height end o er
-      go (inr o) = flat_met r height end h o eh ee er
+      go (inl o) = flat_over r end o er
+      go (inr o) = flat_met r end h o ee er
 
 -- With the fold that makes it narrowest.
 module _ {limit g0 : ℕ} {z : Sizes} {hs ws gs : List ℕ} {best rest : Entry} (a : GroupAsks Nested limit g0 z hs ws gs best rest) where
   abbrev w : ℕ
   w = least_width Nested g0 (components_in hs ws gs) limit
 
-  module _ (es : List ℕ) (at : ℕ) (word : WordAsks Nested limit g0 hs ws gs es at) where
-    pub narrow_asks : (last cap : ℕ) → last ≡ gap_at gs (length hs - 1) → unbarred (components_in hs ws gs) ≡ true → z.widest.0 ≤ cap → cap ≤ 2 * z.widest.0 → MemoryAsks g0 (z.tall.0 + g0 + last) hs ws gs es at limit z.widest.0 cap
-    narrow_asks last cap l free c d = record {
+  module _ {es : List ℕ} {word : ℕ} (asks : WordAsks limit g0 hs ws gs es word) where
+    pub narrow_asks : (high cap : ℕ) → high ≡ flat_height g0 (components_in hs ws gs) → unbarred (components_in hs ws gs) ≡ true → z.widest.0 ≤ cap → cap ≤ 2 * z.widest.0 → MemoryAsks g0 high hs ws gs es word limit z.widest.0 cap
+    narrow_asks high cap flat free c d = record {
       asks = record {
         asks = record {
-          table = record { columns = record { same = a.lists.same_widths; low = a.lists.low; slim = a.lists.slim }; few = a.lists.few; room = omega (arith, word.0, word.1) };
+          table = record { columns = record { same = a.lists.same_widths; low = a.lists.low; slim = a.lists.slim }; few = a.lists.few; room = asks.0 };
           some = a.some;
           seams_long = a.lists.same_seams;
           gaps_low = a.lists.near;
@@ -125,10 +121,8 @@ module _ {limit g0 : ℕ} {z : Sizes} {hs ws gs : List ℕ} {best rest : Entry} 
         to = d;
         limit_low = a.limit_most;
       };
-      is_flat = flat_is a last l;
-      behind = word.0;
-      within = word.1;
-      holds = rw a.widest_is word.2;
+      is_flat = flat;
+      holds = rw a.widest_is asks.1;
     }
 
   -- From the width b on a layout with this rest is no better than the best one.
@@ -137,35 +131,30 @@ module _ {limit g0 : ℕ} {z : Sizes} {hs ws gs : List ℕ} {best rest : Entry} 
     folds_wide h =
         sym (skip_widest (λ last. may_stand Nested) limit g0 true (components_in hs ws gs) (layout_in rest) (length hs) (layout_in best) a.fair b from.0 from.1 (omega (arith, a.widest_is)))
 
-    module _ (cap nw nh : ℕ) (e : cap ≡ min (2 * z.widest.0) (b - 1 - rest.width.0)) (n : Narrow g0 hs ws gs limit cap nw nh) where
-      pub folds_none : none ≤ nw → layout_in best ≡ tried Nested limit g0 hs ws gs best rest
-      folds_none h = sym (go (order w cap))
+    module _ (cap : ℕ) (e : cap ≡ min (2 * z.widest.0) (b - 1 - rest.width.0)) {found : Option Outline} (n : Narrow g0 hs ws gs limit cap found) where
+      pub folds_none : found ≡ None → layout_in best ≡ tried Nested limit g0 hs ws gs best rest
+      folds_none f = sym (go (order w cap))
         where
           go : (w ≤ cap) ⊎ (cap < w) → tried Nested limit g0 hs ws gs best rest ≡ layout_in best
-          go (inl p) = absurd (omega (arith, (n.within p).0, wide_4000 a))
+          go (inl p) = absurd (none-some _ (sym f ∙ n.within p))
           go (inr p) =
               skip_both (λ last. may_stand Nested) limit g0 true (components_in hs ws gs) (layout_in rest) (length hs) (layout_in best) a.fair b from.0 from.1 cap (omega (arith, a.widest_is)) p
 
-      pub folds_tried : (r : Layout) (height end : ℕ) → rest.width.0 < none → nw < none → height ≡ max nh rest.height.0 → end ≡ length hs
-          → r ≡ choice (record { width = nw + rest.width.0; height = height; end = end }) (layout_in best)
-          → r ≡ tried Nested limit g0 hs ws gs best rest
-      folds_tried r height end o h eh ee er = go (order w cap)
-        where
-          go : (w ≤ cap) ⊎ (cap < w) → r ≡ tried Nested limit g0 hs ws gs best rest
-          go (inr p) = absurd (omega (arith, n.over p))
-          go (inl p) =
-              let f = n.within p in
-              rw (candidate_is (groups Nested) limit g0 true (components_in hs ws gs) (layout_in rest) (length hs) (omega (arith, f.0)) o, ← f.0, ← f.1, ← eh, ← ee) er
+      module _ {group : Outline} (f : found ≡ Some group) where
+        found_is : (w ≤ cap) × (outline w (least_height Nested g0 (components_in hs ws gs) w) ≡ group)
+        found_is = go (order w cap)
+          where
+            go : (w ≤ cap) ⊎ (cap < w) → (w ≤ cap) × (outline w (least_height Nested g0 (components_in hs ws gs) w) ≡ group)
+            go (inl p) = (p, same_Some _ _ (sym (n.within p) ∙ f))
+            go (inr p) = absurd (none-some group (sym (n.over p) ∙ f))
 
--- What is read at the last component of a stack.
-pub last_gap : (s : List Piece) {x : ℕ} → x ≡ gap_at (seams_in s) (length s - 1) → x ≡ gap_at (seams_in s) (length (heights_in s) - 1)
-last_gap s e = rw (heights_length s) e
+        pub folds_tried : (r : Layout) (end : ℕ) → rest.width.0 < none → end ≡ length hs → r ≡ choice (in_front group rest end) (layout_in best) → r ≡ tried Nested limit g0 hs ws gs best rest
+        folds_tried r end o ee er =
+            rw (candidate_is (groups Nested) limit g0 true (components_in hs ws gs) (layout_in rest) (length hs) (omega (arith, found_is.0, wide_4000 a)) o)
+            (subst (λ (g : Outline). r ≡ choice (in_front g rest (length hs)) (layout_in best)) (sym found_is.1) (rw ee at er))
 
-pub last_barred : (s : List Piece) {b : Bool} → barred_at (seams_in s) (length s - 1) ≡ b → barred_at (seams_in s) (length (heights_in s) - 1) ≡ b
-last_barred s e = rw (heights_length s) e
-
--- The first components of a stack.
-pub first_free : (s : List Piece) (last : ℕ) → last < length s → barred_at (seams_in s) last ≡ false → unbarred (stack_in (take (last + 1) s)) ≡ true
-first_free s last h e =
+-- A group of the first components may end where no fold is barred.
+pub first_ends : (s : List Piece) (last : ℕ) {b : Bool} → last < length s → barred_at (seams_in s) last ≡ b → unbarred (stack_in (take (last + 1) s)) ≡ not b
+first_ends s last h e =
     let z : last + 1 - 1 ≡ last = omega arith in
     rw (stack_take s (last + 1) (omega arith)) (unbarred_behind (heights_in s) (widths_in s) (seams_in s) (last + 1) (omega arith) (omega (arith, heights_length s)) ∙ rw (z, e))

@@ -1,25 +1,25 @@
 // The best layouts of a stack for a height, from its last component to its first.
 #![tactic(auto)]
 
-ghost use Rattle.std.specs.Prelude.{true, ◌≡◌, ◌+◌, ◌*◌, ◌≤◌, ◌<◌, max, length, get_or, drop};
-ghost use Rattle.numbers.specs.Table.{cells};
-ghost use Rattle.terms.specs.Numbers.{most_apart, most_limit};
+ghost use Rattle.std.specs.Prelude.{true, ◌≡◌, ◌+◌, ◌-◌, ◌*◌, ◌≤◌, ◌<◌, ◌^◌, max, length, get_or, take, drop};
+ghost use Rattle.std.specs.Option.{unwrap_or};
+ghost use Rattle.terms.specs.Numbers.{most_size, most_limit};
 ghost use Rattle.terms.specs.declared.Kind.TheVariants.{Apart, Nested};
-ghost use Rattle.terms.specs.Pieces.{heights_in, widths_in, seams_in, stack_in, columns, sizes};
+ghost use Rattle.terms.specs.Pieces.{heights_in, seams_in, stack_in, columns};
+ghost use Rattle.terms.specs.Seams.{gap_at};
 ghost use Rattle.group.specs.Group.{none, unbarred};
-ghost use Rattle.layout.specs.Layout.{better, choice, unmet, layouts, layout_of};
-ghost use Rattle.layout.specs.Plan.{lists, extents};
-ghost use Rattle.plan.specs.Asks.{layout_in, GroupAsks, tried, most_rows, FirstAsks, Under, SizesAsk, SizesOf};
-ghost use Rattle.plan.specs.Asks.{FromAsks, PlanAsks, PlanDone, gap_before, plan_room};
-ghost use Rattle.plan.specs.Memory.{WordAsks, WordDone, RowAsks, RowDone, Forgotten, RowRoom, Readied};
-ghost use Rattle.plan.specs.Memory.{EntryAsks, EntryDone, Known, Memory, most_row};
+ghost use Rattle.layout.specs.Layout.{choice, unmet, layouts, layout_of};
+ghost use Rattle.layout.specs.Plan.{layout_in, lists, extents};
+ghost use Rattle.plan.specs.Asks.{in_front, GroupAsks, tried, most_rows, FirstAsks, Under, SizesAsk, SizesOf};
+ghost use Rattle.plan.specs.Asks.{FromAsks, PlanAsks, PlanDone, EntryAsks, EntryDone, gap_before, plan_room};
+ghost use Rattle.plan.specs.Memory.{WordAsks, WordHolds, RowAsks, RowDone, RowGiven, Readied, row_words, Known, Memory};
 
 use folding::Outline;
 use group::NONE;
 use group_memory::NOTHING;
 use group_search::Sought;
 use layout::Entry;
-use numbers::{CELLS, barred, gap, height, width};
+use numbers::{CELLS, barred, gap};
 use terms::{Kind, MOST_APART, MOST_NESTED, Piece, Rows, Slices};
 
 // The rows of some components without empty rows between them, and the greatest of their widths.
@@ -40,23 +40,20 @@ struct Asked {
 // The groups of a stack: as many as there are pairs of a first and a last component.
 const GROUPS: usize = MOST_NESTED * (MOST_NESTED + 1) / 2;
 
-// One more than a stack may have components.
+// The entries of a plan: one for what is left of a stack behind each number of its components, none and all among them.
 pub const LISTED: usize = MOST_APART + 1;
 
-fn is_better(a: Entry, b: Entry) -> bool
-    ensures { result ≡ better (layout_in a) (layout_in b) }
+// The layout with a group that ends behind `end` components in front of the rest, if it is better than the best so far.
+fn improved(group: Outline, end: usize, best: Entry, rest: &Entry) -> Option<Entry>
+    requires { group.width.0 + rest.now.width.0 < 2 ^ 32 }
+    ensures { layout_in (unwrap_or result best) ≡ choice (in_front group rest.now end) (layout_in best) }
 {
-    (a.width.0, a.height.0) < (b.width.0, b.height.0)
-}
-
-// The better of two; of equal ones the second, which was found first.
-fn pick(a: Entry, b: Entry) -> Entry
-    ensures { layout_in result ≡ choice (layout_in a) (layout_in b) }
-{
-    if is_better(a, b) {
-        return a;
-    }
-    b
+    let layout = Entry {
+        width: Slices(group.width.0 + rest.width.0),
+        height: group.height.max(rest.height),
+        end,
+    };
+    layout.is_better(best).then_some(layout)
 }
 
 // No group with more rows than this in its components keeps the limit.
@@ -77,132 +74,127 @@ impl Sizes {
         widest: Slices(0),
     };
 
-    // With the component at i besides.
-    fn plus(self, stack: &[Piece], i: usize) -> Sizes
-        requires { (i < length stack.now) × (self.tall.0 ≤ none) }
-        ensures tall { result.tall.0 ≡ self.tall.0 + get_or (heights_in stack.now) i 0 }
-        ensures widest { result.widest.0 ≡ max self.widest.0 (get_or (widths_in stack.now) i 0) }
+    // With one more component.
+    fn plus(self, piece: &Piece) -> Sizes
+        requires { self.tall.0 ≤ none }
+        ensures tall { result.tall.0 ≡ self.tall.0 + piece.now.height }
+        ensures widest { result.widest.0 ≡ max self.widest.0 piece.now.width }
     {
         Sizes {
-            tall: Rows(self.tall.0 + height(stack, i)),
-            widest: Slices(self.widest.0.max(width(stack, i))),
+            tall: Rows(self.tall.0 + u32::from(piece.height)),
+            widest: self.widest.max(Slices(u32::from(piece.width))),
         }
+    }
+
+    // The height of a group of these components without a fold, behind a gap.
+    pub fn flat_height(self, before: Rows, stack: &[Piece]) -> Rows
+        requires some { 0 < length stack.now }
+        requires low { (self.tall.0 ≤ none) × (before.0 ≤ most_size) }
+        ensures { result.0 ≡ self.tall.0 + before.0 + gap_at (seams_in stack.now) (length stack.now - 1) }
+    {
+        Rows(self.tall.0 + before.0 + gap(stack, stack.len() - 1))
     }
 }
 
-// The rows of the first k components without empty rows, and the greatest of their widths.
-pub fn sizes_of(stack: &[Piece], k: usize) -> Sizes
-    requires { sizes stack.now SizesAsk k }
-    ensures { sizes stack.now SizesOf k result }
+pub fn sizes_of(stack: &[Piece]) -> Sizes
+    requires { SizesAsk (heights_in stack.now) }
+    ensures { SizesOf (stack_in stack.now) result }
 {
     let mut sizes = Sizes::EMPTY;
-    for i in 0..k {
-        sizes = sizes.plus(stack, i);
+    for p in stack {
+        sizes = sizes.plus(p);
     }
     sizes
 }
 
 // A group without a fold in front of the rest. Where the rest does not keep the limit its width is NONE, and the two are wider
 // than every layout.
-fn try_flat(ask: Asked, sizes: Sizes, stack: &[Piece], best: Entry, rest: Entry) -> Entry
-    requires group_asks { columns stack.now (GroupAsks Apart ask.limit.0 ask.before.0 sizes) best rest }
+fn try_flat(ask: Asked, sizes: Sizes, stack: &[Piece], best: Entry, rest: &Entry) -> Option<Entry>
+    requires group_asks { columns stack.now (GroupAsks Apart ask.limit.0 ask.before.0 sizes) best rest.now }
     requires free { unbarred (stack_in stack.now) ≡ true }
-    ensures { layout_in result ≡ columns stack.now (tried Apart ask.limit.0 ask.before.0) best rest }
+    ensures { layout_in (unwrap_or result best) ≡ columns stack.now (tried Apart ask.limit.0 ask.before.0) best rest.now }
 {
-    let k = stack.len();
-    let height = sizes.tall.0 + ask.before.0 + gap(stack, k - 1);
-    if ask.limit.0 < height {
-        return best;
+    let height = sizes.flat_height(ask.before, stack);
+    if ask.limit < height {
+        return None;
     }
-    pick(
-        Entry {
-            width: Slices(sizes.widest.0 + rest.width.0),
-            height: Rows(height.max(rest.height.0)),
-            end: k,
-        },
-        best,
-    )
+    let group = Outline {
+        width: sizes.widest,
+        height,
+    };
+    improved(group, stack.len(), best, rest)
 }
 
 // From this width on a layout in front of the rest is no better than the best one. As wide as that it can be better only if
 // the rest is lower.
-fn too_wide(best: Entry, rest: Entry) -> Slices
+fn too_wide(best: Entry, rest: &Entry) -> Slices
     requires { best.width.0 ≤ none }
-    ensures width_le_result { (best.width.0 ≤ result.0) × (result.0 ≤ best.width.0 → best.height.0 ≤ rest.height.0) }
+    ensures width_le_result { (best.width.0 ≤ result.0) × (result.0 ≤ best.width.0 → best.height.0 ≤ rest.now.height.0) }
     ensures result_bound { result.0 ≤ best.width.0 + 1 }
 {
-    if rest.height.0 < best.height.0 {
+    if rest.height < best.height {
         return Slices(best.width.0 + 1);
     }
     best.width
 }
 
 // A group with the fold that makes it narrowest in front of the rest. A group that is too wide to improve the best layout
-// need not be searched; in front of a rest of NONE every group is. The group's word stands at `at`.
+// need not be searched; in front of a rest of NONE every group is.
 fn try_folds(
     ask: Asked,
     sizes: Sizes,
     stack: &[Piece],
     best: Entry,
-    rest: Entry,
-    at: usize,
-    work: &mut [u32],
-) -> Entry
-    requires group_asks { columns stack.now (GroupAsks Nested ask.limit.0 ask.before.0 sizes) best rest }
-    requires word_asks { columns stack.now (WordAsks Nested ask.limit.0 ask.before.0) work.old at }
+    rest: &Entry,
+    table: &mut [u32],
+    word: &mut u32,
+) -> Option<Entry>
+    requires group_asks { columns stack.now (GroupAsks Nested ask.limit.0 ask.before.0 sizes) best rest.now }
+    requires word_asks { columns stack.now (WordAsks ask.limit.0 ask.before.0) table.old word.old }
     requires free { unbarred (stack_in stack.now) ≡ true }
-    ensures result_value { layout_in result ≡ columns stack.now (tried Nested ask.limit.0 ask.before.0) best rest }
-    ensures word_done { columns stack.now (WordDone Nested ask.limit.0 ask.before.0) work.old work.new at }
+    ensures result_value { layout_in (unwrap_or result best) ≡ columns stack.now (tried Nested ask.limit.0 ask.before.0) best rest.now }
+    ensures word_holds { columns stack.now (WordHolds ask.limit.0 ask.before.0) word.new }
 {
     let bound = too_wide(best, rest);
     if bound.0 <= rest.width.0 + sizes.widest.0 {
-        return best;
+        return None;
     }
     let cap = Slices((2 * sizes.widest.0).min(bound.0 - 1 - rest.width.0));
-    let k = stack.len();
-    let flat = Rows(sizes.tall.0 + ask.before.0 + gap(stack, k - 1));
     let sought = Sought {
         before: ask.before,
-        flat,
+        flat: sizes.flat_height(ask.before, stack),
         limit: ask.limit,
         widest: sizes.widest,
     };
-    let n = group_memory::narrowest(sought, stack, work, at, cap);
-    if NONE <= n.width.0 {
-        return best;
-    }
-    pick(
-        Entry {
-            width: Slices(n.width.0 + rest.width.0),
-            height: Rows(n.height.0.max(rest.height.0)),
-            end: k,
-        },
-        best,
-    )
+    let group = group_memory::narrowest(sought, stack, table, word, cap)?;
+    improved(group, stack.len(), best, rest)
 }
 
-// No group ends behind a barred component.
+// The group that ends with the component at i. No group ends behind a barred component.
 fn try_group(
     ask: Asked,
     sizes: Sizes,
+    i: usize,
     stack: &[Piece],
     best: Entry,
-    rest: Entry,
-    at: usize,
-    work: &mut [u32],
-) -> Entry
-    requires group_asks { columns stack.now (GroupAsks ask.kind ask.limit.0 ask.before.0 sizes) best rest }
-    requires word_asks { columns stack.now (WordAsks ask.kind ask.limit.0 ask.before.0) work.old at }
-    ensures result_value { layout_in result ≡ columns stack.now (tried ask.kind ask.limit.0 ask.before.0) best rest }
-    ensures word_done { columns stack.now (WordDone ask.kind ask.limit.0 ask.before.0) work.old work.new at }
+    rest: &Entry,
+    table: &mut [u32],
+    row: &mut [u32],
+) -> Option<Entry>
+    requires within { i < length stack.now }
+    requires group_asks { columns (take (i + 1) stack.now) (GroupAsks ask.kind ask.limit.0 ask.before.0 sizes) best rest.now }
+    requires row_asks { columns stack.now (RowAsks ask.kind ask.limit.0 ask.before.0) table.old row.old }
+    ensures result_value { layout_in (unwrap_or result best)
+        ≡ columns (take (i + 1) stack.now) (tried ask.kind ask.limit.0 ask.before.0) best rest.now }
+    ensures row_done { columns stack.now (RowDone ask.kind ask.limit.0 ask.before.0) row.new }
 {
-    let k = stack.len();
-    if barred(stack, k - 1) {
-        return best;
+    if barred(stack, i) {
+        return None;
     }
+    let group = &stack[..i + 1];
     match ask.kind {
-        Kind::Apart => try_flat(ask, sizes, stack, best, rest),
-        Kind::Nested => try_folds(ask, sizes, stack, best, rest, at, work),
+        Kind::Apart => try_flat(ask, sizes, group, best, rest),
+        Kind::Nested => try_folds(ask, sizes, group, best, rest, table, &mut row[i]),
     }
 }
 
@@ -213,44 +205,50 @@ fn bound_by(
     last: usize,
     stack: &[Piece],
     later: &[Entry],
-    row: usize,
-    work: &mut [u32],
-) -> Slices
+    table: &mut [u32],
+    row: &mut [u32],
+) -> Option<Slices>
     requires first_asks { extents later.now (columns stack.now (FirstAsks Nested ask.limit.0 ask.before.0)) }
-    requires row_asks { columns stack.now (RowAsks Nested ask.limit.0 ask.before.0) work.old row }
-    requires row_le_most_row { row ≤ most_row }
-    ensures under { Under Nested ask.limit.0 ask.before.0 (stack_in stack.now) result.0 }
-    ensures row_done { columns stack.now (RowDone Nested ask.limit.0 ask.before.0) work.old work.new row }
+    requires row_asks { columns stack.now (RowAsks Nested ask.limit.0 ask.before.0) table.old row.old }
+    ensures under { Under Nested ask.limit.0 ask.before.0 (stack_in stack.now) result }
+    ensures row_done { columns stack.now (RowDone Nested ask.limit.0 ask.before.0) row.new }
 {
     if stack.len() <= last || barred(stack, last) {
-        return Slices(NONE);
+        return None;
     }
-    let k = last + 1;
-    let sizes = sizes_of(stack, k);
-    let rest = later[last];
-    let at = row + last;
-    let b = try_folds(ask, sizes, &stack[..k], Entry::UNMET, rest, at, work);
-    Slices(NONE.min(b.width.0 + 1))
+    let group = &stack[..last + 1];
+    let sizes = sizes_of(group);
+    let b = try_folds(
+        ask,
+        sizes,
+        group,
+        Entry::UNMET,
+        &later[last],
+        table,
+        &mut row[last],
+    )?;
+    let o = b.outline()?;
+    Some(Slices(o.width.0 + 1))
 }
 
-// Apart no group is searched, so a bound would gain nothing.
+// Apart no group is searched, so a bound would gain nothing. The match stands apart from `bound_by`: in it, the loop over apart
+// groups was compiled together with that over nested ones, and was a seventh slower.
 fn likely_bound(
     ask: Asked,
     last: usize,
     stack: &[Piece],
     later: &[Entry],
-    row: usize,
-    work: &mut [u32],
-) -> Slices
+    table: &mut [u32],
+    row: &mut [u32],
+) -> Option<Slices>
     requires first_asks { extents later.now (columns stack.now (FirstAsks ask.kind ask.limit.0 ask.before.0)) }
-    requires row_asks { columns stack.now (RowAsks ask.kind ask.limit.0 ask.before.0) work.old row }
-    requires row_le_most_row { row ≤ most_row }
-    ensures under { Under ask.kind ask.limit.0 ask.before.0 (stack_in stack.now) result.0 }
-    ensures row_done { columns stack.now (RowDone ask.kind ask.limit.0 ask.before.0) work.old work.new row }
+    requires row_asks { columns stack.now (RowAsks ask.kind ask.limit.0 ask.before.0) table.old row.old }
+    ensures under { Under ask.kind ask.limit.0 ask.before.0 (stack_in stack.now) result }
+    ensures row_done { columns stack.now (RowDone ask.kind ask.limit.0 ask.before.0) row.new }
 {
     match ask.kind {
-        Kind::Apart => Slices(NONE),
-        Kind::Nested => bound_by(ask, last, stack, later, row, work),
+        Kind::Apart => None,
+        Kind::Nested => bound_by(ask, last, stack, later, table, row),
     }
 }
 
@@ -258,55 +256,33 @@ fn likely_bound(
 // are too tall end the search, and layouts as wide as a bound that the best one stays under are not searched for.
 fn first_group(
     ask: Asked,
-    bound: Slices,
+    bound: Option<Slices>,
     stack: &[Piece],
     later: &[Entry],
-    row: usize,
-    work: &mut [u32],
+    table: &mut [u32],
+    row: &mut [u32],
 ) -> Entry
     requires first_asks { extents later.now (columns stack.now (FirstAsks ask.kind ask.limit.0 ask.before.0)) }
-    requires row_asks { columns stack.now (RowAsks ask.kind ask.limit.0 ask.before.0) work.old row }
-    requires under { Under ask.kind ask.limit.0 ask.before.0 (stack_in stack.now) bound.0 }
-    requires row_le_most_row { row ≤ most_row }
+    requires row_asks { columns stack.now (RowAsks ask.kind ask.limit.0 ask.before.0) table.old row.old }
+    requires under { Under ask.kind ask.limit.0 ask.before.0 (stack_in stack.now) bound }
     ensures result_value { layout_in result ≡ layout_of ask.kind ask.limit.0 ask.before.0 (stack_in stack.now) }
-    ensures row_done { columns stack.now (RowDone ask.kind ask.limit.0 ask.before.0) work.old work.new row }
+    ensures row_done { columns stack.now (RowDone ask.kind ask.limit.0 ask.before.0) row.new }
 {
     let n = stack.len();
     let most = most_rows(ask.kind, ask.limit);
     let mut best = Entry {
-        width: bound,
+        width: bound.unwrap_or(Slices(NONE)),
         ..Entry::UNMET
     };
     let mut sizes = Sizes::EMPTY;
     for i in 0..n {
-        sizes = sizes.plus(stack, i);
-        if most.0 < sizes.tall.0 {
+        sizes = sizes.plus(&stack[i]);
+        if most < sizes.tall {
             return best;
         }
-        let at = row + i;
-        best = try_group(ask, sizes, &stack[..i + 1], best, later[i], at, work);
+        best = try_group(ask, sizes, i, stack, best, &later[i], table, row).unwrap_or(best);
     }
     best
-}
-
-// The best first group, where one that ends with the component at `last` is likely: it is tried first, and what is wider is
-// left out. Most often a first group ends where that of the next component ends.
-fn likely_first(
-    ask: Asked,
-    last: usize,
-    stack: &[Piece],
-    later: &[Entry],
-    row: usize,
-    work: &mut [u32],
-) -> Entry
-    requires first_asks { extents later.now (columns stack.now (FirstAsks ask.kind ask.limit.0 ask.before.0)) }
-    requires row_asks { columns stack.now (RowAsks ask.kind ask.limit.0 ask.before.0) work.old row }
-    requires row_le_most_row { row ≤ most_row }
-    ensures result_value { layout_in result ≡ layout_of ask.kind ask.limit.0 ask.before.0 (stack_in stack.now) }
-    ensures row_done { columns stack.now (RowDone ask.kind ask.limit.0 ask.before.0) work.old work.new row }
-{
-    let bound = likely_bound(ask, last, stack, later, row, work);
-    first_group(ask, bound, stack, later, row, work)
 }
 
 fn gap_before(stack: &[Piece], i: usize) -> Rows
@@ -319,23 +295,23 @@ fn gap_before(stack: &[Piece], i: usize) -> Rows
     Rows(gap(stack, i - 1))
 }
 
-// The best layout of what is left of a stack behind its first i components, where the plan holds the later ones. The first
-// group behind one more of them ends where this one likely does.
+// The best layout of what is left of a stack behind its first i components, where the plan holds the later ones. Most often a
+// first group ends where that of the next component ends: the one that ends there is tried first, and what is wider is left
+// out.
 fn best_from(
     kind: Kind,
     limit: Rows,
     i: usize,
     stack: &[Piece],
     plan: &[Entry],
-    row: usize,
-    work: &mut [u32],
+    table: &mut [u32],
+    row: &mut [u32],
 ) -> Entry
     requires from_asks { extents plan.now (columns stack.now (FromAsks kind limit.0 i)) }
-    requires row_asks { columns (drop i stack.now) (RowAsks kind limit.0 (gap_before (seams_in stack.now) i)) work.old row }
-    requires row_le_most_row { row ≤ most_row }
+    requires row_asks { columns (drop i stack.now) (RowAsks kind limit.0 (gap_before (seams_in stack.now) i))
+        table.old row.old }
     ensures result_value { layout_in result ≡ get_or (layouts kind limit.0 0 (stack_in stack.now)) i unmet }
-    ensures row_done { columns (drop i stack.now) (RowDone kind limit.0 (gap_before (seams_in stack.now) i))
-        work.old work.new row }
+    ensures row_done { columns (drop i stack.now) (RowDone kind limit.0 (gap_before (seams_in stack.now) i)) row.new }
 {
     let ask = Asked {
         kind,
@@ -343,7 +319,10 @@ fn best_from(
         before: gap_before(stack, i),
     };
     let next = i + 1;
-    likely_first(ask, plan[next].end, &stack[i..], &plan[next..], row, work)
+    let rest = &stack[i..];
+    let later = &plan[next..];
+    let bound = likely_bound(ask, plan[next].end, rest, later, table, row);
+    first_group(ask, bound, rest, later, table, row)
 }
 
 // What planning takes of a work buffer.
@@ -361,46 +340,50 @@ pub fn room(kind: Kind) -> usize
 fn stays(known: Rows, limit: Rows, height: Rows) -> bool
     ensures { result ≡ true → (limit.0 < known.0) × (height.0 ≤ limit.0) }
 {
-    limit.0 < known.0 && height.0 <= limit.0
+    limit < known && height <= limit
 }
 
-// The `count` words from `row` on say nothing.
-fn forget(row: usize, count: usize, work: &mut [u32])
-    requires { (cells ≤ row) × (row + count ≤ length work.old) }
-    ensures { Forgotten work.old work.new row count }
+// What is remembered for a higher limit serves a lower one, and no other: else the words say nothing.
+fn ready(known: Rows, limit: Rows, row: &mut [u32])
+    ensures { Readied known.0 limit.0 row.old row.new }
 {
-    work[row..row + count].fill(NOTHING);
-}
-
-// What is remembered for a higher limit serves a lower one, and no other.
-fn ready_row(kind: Kind, known: Rows, limit: Rows, row: usize, count: usize, work: &mut [u32])
-    requires { RowRoom kind row count work.old }
-    ensures { Readied kind known.0 limit.0 work.old work.new row count }
-{
-    if kind == Kind::Nested && known.0 <= limit.0 {
-        forget(row, count, work);
+    if known <= limit {
+        row.fill(NOTHING);
     }
 }
 
-// The best layout of what is left behind i components, in the plan. The words of its first groups stand in the row.
+// The best layout of what is left behind i components, in the plan. The row has the words of its first groups.
 fn plan_at(
     kind: Kind,
     known: Rows,
     limit: Rows,
     i: usize,
-    row: usize,
     stack: &[Piece],
     plan: &mut [Entry],
-    work: &mut [u32],
+    table: &mut [u32],
+    row: &mut [u32],
 )
-    requires { lists plan.old (columns stack.now (EntryAsks kind known.0 limit.0 i row)) work.old }
-    ensures { lists plan.new (columns stack.now (EntryDone kind known.0 limit.0 i)) work.new }
+    requires entry_asks { lists plan.old (columns stack.now (EntryAsks kind known.0 limit.0 i)) }
+    requires row_given { columns (drop i stack.now) (RowGiven kind known.0 limit.0 (gap_before (seams_in stack.now) i))
+        table.old row.old }
+    ensures entry_done { lists plan.new (columns stack.now (EntryDone kind known.0 limit.0 i)) }
+    ensures row_done { columns (drop i stack.now) (RowDone kind limit.0 (gap_before (seams_in stack.now) i)) row.new }
 {
-    ready_row(kind, known, limit, row, stack.len() - i, work);
+    ready(known, limit, row);
     if stays(known, limit, plan[i].height) {
         return;
     }
-    plan[i] = best_from(kind, limit, i, stack, plan, row, work);
+    plan[i] = best_from(kind, limit, i, stack, plan, table, row);
+}
+
+// The words of the first groups of what is left of a stack: one for each of its components as the last of the group.
+fn row_words(kind: Kind, left: usize) -> usize
+    ensures { result ≡ row_words kind left }
+{
+    match kind {
+        Kind::Apart => 0,
+        Kind::Nested => left,
+    }
 }
 
 // For a height: the best layouts of a stack and of what is left of it behind 1, 2, 3 and so on components, and the outline
@@ -420,22 +403,23 @@ pub fn replan(
     ensures memory { columns stack.now (Memory kind limit.0) work.new }
 {
     let n = stack.len();
-    plan[n] = Entry {
-        width: Slices(0),
-        height: Rows(0),
-        end: 0,
-    };
-    let mut row = CELLS;
+    plan[n] = Entry::EMPTY;
+    let front = CELLS.min(work.len());
+    let (table, words) = work.split_at_mut(front);
+    let mut at = 0;
     for i in (0..n).rev() {
-        plan_at(kind, known, limit, i, row, stack, plan, work);
-        row += n - i;
+        let end = at + row_words(kind, n - i);
+        plan_at(
+            kind,
+            known,
+            limit,
+            i,
+            stack,
+            plan,
+            table,
+            &mut words[at..end],
+        );
+        at = end;
     }
-    let best = plan[0];
-    if NONE <= best.width.0 {
-        return None;
-    }
-    Some(Outline {
-        width: best.width,
-        height: best.height,
-    })
+    plan[0].outline()
 }

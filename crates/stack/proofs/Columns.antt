@@ -11,6 +11,9 @@ use Rattle.stack.specs.Inner.{column_into}
 use Rattle.terms.proofs.Lists.{none, all_marked, marked_at}
 use Rattle.terms.proofs.Tabulate.{tabulate-set, tabulate-map, tabulate_at, tabulate-length}
 
+pub tabulated : (g : ℕ → Component) (n : ℕ) → length (tabulate g n) ≡ n
+tabulated g n = tabulate-length g n
+
 pub counts : (file : List ℕ) (n : ℕ) → length (components_of file n) ≡ n
 counts file n = tabulate-length (component_at file) n
 

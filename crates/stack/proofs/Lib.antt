@@ -1,5 +1,4 @@
 pub mod Valid
 pub mod Columns
 pub mod Reading
-pub mod Looking
 pub mod Filling

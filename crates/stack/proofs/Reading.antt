@@ -3,8 +3,7 @@ use Prim.Native.Nat.{ℕ, ◌≤◌, ◌<◌, min}
 use mathlib.Core.Path.{◌≡◌, refl, sym, ap, ◌∙◌}
 use mathlib.Core.List.{List, map}
 use native.Mathlib.Omega.{arith}
-use lib.ListN.{length, take, drop}
-use lib.Seq.{take_at}
+use lib.ListN.{length}
 use lib.Dec.{ltb}
 use borrow.Author.Tests.{lt-ltb, le-ltb}
 use Rattle.terms.specs.declared.Component.{Component}
@@ -17,9 +16,9 @@ use Rattle.terms.specs.Pieces.{piece_of, stack_in, heights_in, widths_in, seams_
 use Rattle.terms.proofs.Lists.{heights_of, widths_of, seams_of, all_marked}
 use Rattle.terms.proofs.Pieces.{heights_packed, widths_packed, seams_packed, unpacked}
 use Rattle.std.proofs.lemmas.List.{length-map}
-use Rattle.terms.proofs.Answers.{counted, uncounted, most_256}
+use Rattle.terms.proofs.Answers.{counted, uncounted, went_on, result_same, most_256}
 use Rattle.stack.specs.File.{components_of, check_of}
-use Rattle.stack.specs.Calls.{read_of, read_into, read_all, Read}
+use Rattle.stack.specs.Calls.{read_of, read_into, read_all, Read, pieces_of}
 use Rattle.stack.specs.Inner.{Pieced, column_into, Fillable, Filled}
 use Rattle.stack.proofs.Valid.{Valid, valid}
 use Rattle.stack.proofs.Columns.{counts, column-map, mark_fits}
@@ -49,10 +48,8 @@ module _ (kind : Kind) (file : List ℕ) {n : ℕ} (e : count_of (check_of kind 
   pub fillable : (room : ℕ) → n ≤ room → Fillable file n room
   fillable room h =
       let s = stands in
-      let z = rw (counts file n) at s.header.size in
       record {
         few = omega (arith, s.stack.few, most_256 kind, counts file n);
-        long = omega (arith, z);
         fits = h;
         marked = mark_fits file n s.stack.marks;
       }
@@ -95,30 +92,7 @@ module _ (file heights widths gaps marks : List ℕ) where
       marks_hold = column Apart file e (λ c. c.mark) marks marks' room h f.marks_hold;
     }
 
--- The first entries of a list that was read into.
-first_pieces : (a : Answer (List Component)) (old l : List Piece) (cs : List Component) (n : ℕ) → a ≡ result cs → l ≡ read_into a piece_of old → length cs ≡ n → take n l ≡ map piece_of cs
-first_pieces a old l cs n e k m = rw (k, e) (take_at (map piece_of cs) (drop (length cs) old) n (length-map cs piece_of ∙ m))
-
--- A list of 256 pieces is always long enough: what it holds then.
-pub record Held (kind : Kind) (file : List ℕ) (n : ℕ) (room : List Piece) : Type 0 where
-  pub components : List Component
-  pub checked : check_of kind file ≡ result components
-  pub count : length components ≡ n
-  pub in_room : take n room ≡ map piece_of components
-
-module _ {kind : Kind} {file : List ℕ} {n : ℕ} {room : List Piece} (h : Held kind file n room) where
-  pub components_held : stack_in (take n room) ≡ h.components
-  components_held = rw h.in_room (unpacked h.components (all_marked h.components (valid kind file h.components h.checked).stack.marks))
-
-  pub heights_held : heights_in (take n room) ≡ heights_of h.components
-  heights_held = rw h.in_room (heights_packed h.components)
-
-  pub widths_held : widths_in (take n room) ≡ widths_of h.components
-  widths_held = rw h.in_room (widths_packed h.components)
-
-  pub seams_held : seams_in (take n room) ≡ seams_of h.components
-  seams_held = rw h.in_room (seams_packed h.components (all_marked h.components (valid kind file h.components h.checked).stack.marks))
-
+-- A list of 256 pieces is always long enough.
 module _ (kind : Kind) (file : List ℕ) (room : List Piece) (h : length room ≡ 256) where
   roomy : read_of kind file (length room) ≡ check_of kind file
   roomy = go (check_of kind file) (λ cs e. let v = (valid kind file cs e).stack.few in omega (arith, most_256 kind))
@@ -128,17 +102,40 @@ module _ (kind : Kind) (file : List ℕ) (room : List Piece) (h : length room �
       go (refusal k) m = refl
       go (result cs) m = rw (h, le-ltb 256 (length cs) (m cs refl))
 
-  module _ {answer : Answer ℕ} {room' : List Piece} (d : Pieced kind file room answer room') where
-    pub read_refused : (k : ℕ) → answer ≡ refusal k → check_of kind file ≡ refusal k
-    read_refused k e = uncounted (check_of kind file) k (rw (← roomy) (sym d.answers ∙ e))
+  pub no_pieces : {answer : Answer ℕ} {room' : List Piece} → Pieced kind file room answer room' → (k : ℕ) → answer ≡ refusal k → refusal k ≡ pieces_of kind file
+  no_pieces d k e = rw (uncounted (check_of kind file) k (rw (← roomy) (sym d.answers ∙ e)))
 
-    pub read_held : (n : ℕ) → answer ≡ result n → Held kind file n room'
-    read_held n e =
-        let c = counted (check_of kind file) n (rw (← roomy) (sym d.answers ∙ e)) in
-        let a : read_of kind file (length room) ≡ result c.0 = roomy ∙ c.1 in
-        record {
-          components = c.0;
-          checked = c.1;
-          count = c.2;
-          in_room = first_pieces _ room room' c.0 n a d.pieces_hold c.2;
-        }
+-- A stack that was read, and the components that it stands for.
+pub record Held (kind : Kind) (file : List ℕ) (s : List Piece) : Type 0 where
+  pub components : List Component
+  pub checked : check_of kind file ≡ result components
+  pub in_pieces : s ≡ map piece_of components
+
+module _ (kind : Kind) (file : List ℕ) where
+  pub held : {s p : List Piece} → p ≡ s → result s ≡ pieces_of kind file → Held kind file p
+  held {s} {p} i e =
+      let w = went_on (check_of kind file) (λ cs. result (map piece_of cs)) s (sym e) in
+      record { components = w.0; checked = w.1; in_pieces = i ∙ sym (result_same w.2) }
+
+  pub not_held : (k : ℕ) → refusal k ≡ pieces_of kind file → check_of kind file ≡ refusal k
+  not_held k e = go (check_of kind file) (sym e)
+    where
+      go : (a : Answer (List Component)) → and_then a (λ cs. result (map piece_of cs)) ≡ refusal k → a ≡ refusal k
+      go (refusal j) m = let n : j ≡ k = cc in rw n
+      go (result cs) m = cc
+
+module _ {kind : Kind} {file : List ℕ} {s : List Piece} (h : Held kind file s) where
+  pub components_held : stack_in s ≡ h.components
+  components_held = rw h.in_pieces (unpacked h.components (all_marked h.components (valid kind file h.components h.checked).stack.marks))
+
+  pub count_held : length h.components ≡ length s
+  count_held = sym (ap length h.in_pieces ∙ length-map h.components piece_of)
+
+  pub heights_held : heights_in s ≡ heights_of h.components
+  heights_held = rw h.in_pieces (heights_packed h.components)
+
+  pub widths_held : widths_in s ≡ widths_of h.components
+  widths_held = rw h.in_pieces (widths_packed h.components)
+
+  pub seams_held : seams_in s ≡ seams_of h.components
+  seams_held = rw h.in_pieces (seams_packed h.components (all_marked h.components (valid kind file h.components h.checked).stack.marks))

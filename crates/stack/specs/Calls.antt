@@ -1,10 +1,13 @@
 -- What reading and lookup answer, and what the lent buffers hold afterwards.
-use Rattle.std.specs.Prelude.{ℕ, ◌+◌, ◌-◌, ◌*◌, min, List, [], ◌++◌, map, ◌≡◌, cond, ◌&&◌, length, take, drop, leb, ltb}
+use Rattle.std.specs.Prelude.{ℕ, ◌+◌, ◌-◌, ◌*◌, min, List, [], ◌++◌, map, ◌≡◌, Option, Some, None, cond, ◌&&◌, length, take, drop, leb, ltb}
+use Rattle.std.specs.declared.ops.Range.{Range}
 use Rattle.terms.specs.declared.Component.{Component}
 use Rattle.terms.specs.declared.Kind.{Kind}
 use Rattle.terms.specs.declared.Kind.TheVariants.{Apart}
+use Rattle.terms.specs.declared.Piece.{Piece}
 use Rattle.terms.specs.Answer.{Answer, refusal, result, refuse_if, and_then}
 use Rattle.terms.specs.Component.{count_of}
+use Rattle.terms.specs.Pieces.{piece_of}
 use Rattle.stack.specs.File.{version_of, bytes_each, check_of}
 
 -- Reading, where the shortest of the lists lent has this length: the file's own refusals, then 8, "a read list under n".
@@ -15,6 +18,10 @@ read_of kind file shortest = and_then (check_of kind file) (λ cs. refuse_if (lt
 abbrev pub read_into : {A : Type 0} → Answer (List Component) → (Component → A) → List A → List A
 read_into (refusal k) part old = old
 read_into (result cs) part old = map part cs ++ drop (length cs) old
+
+-- Reading inside a call: the file's own refusals, or its pieces.
+abbrev pub pieces_of : Kind → List ℕ → Answer (List Piece)
+pieces_of kind file = and_then (check_of kind file) (λ cs. result (map piece_of cs))
 
 -- Reading into four lists. Ticket 3: "one too short for its result is 8".
 abbrev pub read_all : List ℕ → List ℕ → List ℕ → List ℕ → List ℕ → Answer (List Component)
@@ -36,6 +43,19 @@ part_of (result cs) file number =
     cond (leb 1 number && leb number (length cs))
     (take (bytes_each (version_of file)) (drop (7 + bytes_each (version_of file) * (number - 1)) file))
     []
+
+-- Where the bytes of the component stand that has i others before it.
+abbrev pub place_at : List ℕ → ℕ → Range ℕ
+place_at file i =
+    record { start = 7 + bytes_each (version_of file) * i; end = 7 + bytes_each (version_of file) * i + bytes_each (version_of file) }
+
+-- Where the part stands that a lookup shows, unless it is empty.
+abbrev pub place_in : Answer (List Component) → List ℕ → ℕ → Option (Range ℕ)
+place_in (refusal k) file number = None
+place_in (result cs) file number = cond (leb 1 number && leb number (length cs)) (Some (place_at file (number - 1))) None
+
+abbrev pub place_of : List ℕ → ℕ → Option (Range ℕ)
+place_of file number = place_in (check_of Apart file) file number
 
 abbrev pub lookup_of : List ℕ → ℕ → List ℕ
 lookup_of file number = part_of (check_of Apart file) file number

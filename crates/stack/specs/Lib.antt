@@ -1,4 +1,5 @@
 pub mod File
+pub mod Versions
 pub mod Calls
 pub mod Inner
 mod Examples

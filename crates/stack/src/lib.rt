@@ -1,91 +1,213 @@
 // Stack files: the check, the reading and the lookup by component number.
 #![tactic(auto)]
 
-ghost use Rattle.std.specs.Prelude.{◌≡◌, ◌+◌, ◌*◌, ◌≤◌, ◌<◌, length};
+ghost use Rattle.std.specs.Prelude.{◌≡◌, ◌+◌, ◌*◌, ◌≤◌, ◌<◌, ℕ, List, length, take, IfOk, IfSome};
 ghost use Rattle.terms.specs.Numbers.{most_apart};
 ghost use Rattle.terms.specs.Answer.{answer_of};
-ghost use Rattle.terms.specs.Component.{most_of, every, stack_of, count_of};
+ghost use Rattle.terms.specs.declared.Component.{Component};
+ghost use Rattle.terms.specs.Component.{most_of, every, stack_of, count_of, tabulate};
+ghost use Rattle.terms.specs.declared.Piece.{Piece};
 ghost use Rattle.terms.specs.Pieces.{piece_of};
-ghost use Rattle.stack.specs.File.{word_at, version_of, bytes_each, mark_from, component_at, components_of};
-ghost use Rattle.stack.specs.File.{header_of, check_of};
-ghost use Rattle.stack.specs.Calls.{Read, lookup_of};
-ghost use Rattle.stack.specs.Inner.{Pieced, Within, bytes_at, Fillable, Filled, column_into};
+ghost use Rattle.stack.specs.File.{word_at, version_of, bytes_each, component_from, component_at, header_of, check_of};
+ghost use Rattle.stack.specs.Versions.{number_in, version_from};
+ghost use Rattle.stack.specs.Calls.{Read, place_at, place_of, lookup_of, pieces_of};
+ghost use Rattle.stack.specs.Inner.{mapped, words_of, Pieced, Fillable, Filled, least_length, column_into};
 
+use std::marker::Model;
+use std::ops::Range;
 use terms::{
-    Component, GapRule, Kind, MarkRule, Piece, Position, Refusal, Rows, Rule, SizeRule, Slices,
+    Component, GapRule, Kind, MOST_APART, MarkRule, Piece, Position, Refusal, Rows, Rule, SizeRule,
+    Slices,
 };
 
-fn word_at(file: &[u8], i: usize) -> u32
+// A stack that was read: the pieces of a file that the check accepts.
+#[derive(Drop)]
+pub struct Stack {
+    room: [Piece; MOST_APART],
+    n: usize,
+}
+
+impl Model for Stack {
+    ghost Value = { List Piece };
+
+    ghost view = { λ s. take s.n s.room };
+
+    ghost invariant = { λ s. s.n ≤ most_apart };
+}
+
+// The versions of a stack file, by the numbers that stand in it.
+#[derive(Clone, Copy, Debug, PartialEq, Eq)]
+pub enum Version {
+    First = 1,
+    Second = 2,
+}
+
+// The version that a number stands for.
+impl TryFrom<u16> for Version {
+    type Error = Refusal;
+
+    ghost try_from_gives = { λ number r. answer_of r ≡ version_from number };
+
+    fn try_from(number: u16) -> Result<Version, Refusal> {
+        match number {
+            1 => Ok(Version::First),
+            2 => Ok(Version::Second),
+            _ => Err(Refusal::WrongVersion),
+        }
+    }
+}
+
+impl From<Version> for u16 {
+    ghost from_gives = { λ version number. number ≡ number_in version };
+
+    fn from(version: Version) -> u16 {
+        version as u16
+    }
+}
+
+impl Version {
+    // The bytes of a component.
+    pub fn bytes_each(self) -> usize
+        ensures value { result ≡ bytes_each (number_in self) }
+        ensures upper_bound { result ≤ 8 }
+    {
+        match self {
+            Version::First => 6,
+            Version::Second => 8,
+        }
+    }
+}
+
+// A file whose header stands, with its version and the number of its components.
+#[derive(Clone, Copy)]
+struct StackFile<'a> {
+    file: &'a [u8],
+    version: Version,
+    n: usize,
+    ghost version_is: { version_of file.now ≡ number_in version },
+    ghost size: { length file.now ≡ 7 + bytes_each (version_of file.now) * n },
+}
+
+// Components in order, as a file has them or four lists.
+pub trait Components {
+    ghost count: { Self → ℕ };
+
+    ghost at: { Self → ℕ → Component };
+
+    fn len(&self) -> usize
+        ensures { result ≡ count self.now };
+
+    fn component(&self, p: Position) -> Component
+        requires { p.before < count self.now }
+        ensures { result ≡ at self.now p.before };
+}
+
+fn word_at(file: &[u8], i: usize) -> u16
     requires { i + 1 < length file.now }
     ensures { result ≡ word_at file.now i }
 {
-    u32::from(u16::from_le_bytes([file[i], file[i + 1]]))
+    u16::from_le_bytes([file[i], file[i + 1]])
 }
 
-// The bytes of a component in the file's version.
-fn bytes_each(file: &[u8]) -> usize
-    requires { 7 ≤ length file.now }
-    ensures value { result ≡ bytes_each (version_of file.now) }
-    ensures lower_bound { (6 ≤ result) × (result ≤ 8) }
-{
-    if word_at(file, 3) == 1 {
-        return 6;
-    }
-    8
-}
-
-// Refusals 1 to 3, or the count.
+// Refusals 1 to 3, or the file with its count.
 #[tactic(auto, unfolding(crate::specs::File::header_of))]
-fn header(file: &[u8]) -> Result<usize, Refusal>
-    ensures { answer_of result ≡ header_of file.now }
+fn header(file: &[u8]) -> Result<StackFile<'_>, Refusal>
+    ensures count { mapped (λ f. f.n) (answer_of result) ≡ header_of file.now }
+    ensures same_file { IfOk result (λ f. f.file.now ≡ file.now) }
 {
     if file.len() < 7 || !file.starts_with(b"STK") {
         return Err(Refusal::WrongFile);
     }
-    let version = word_at(file, 3);
-    if version != 1 && version != 2 {
-        return Err(Refusal::WrongVersion);
-    }
-    let n = word_at(file, 5) as usize;
-    if file.len() != 7 + bytes_each(file) * n {
+    let version = Version::try_from(word_at(file, 3))?;
+    let n = usize::from(word_at(file, 5));
+    if file.len() != 7 + version.bytes_each() * n {
         return Err(Refusal::WrongLength);
     }
-    Ok(n)
+    Ok(StackFile { file, version, n })
 }
 
-// The mark of the component whose bytes start at byte `at`: version 1 has none.
-fn mark_from(file: &[u8], at: usize) -> u32
-    requires { (7 ≤ at) × (at + bytes_each (version_of file.now) ≤ length file.now) }
-    ensures { result ≡ mark_from (version_of file.now) file.now at }
+// Height, width, gap and mark of the component whose bytes start at byte `at`. Version 1 has no mark.
+fn words_from(file: &[u8], version: Version, at: usize) -> [u16; 4]
+    requires { (7 ≤ at) × (at + bytes_each (number_in version) ≤ length file.now) }
+    ensures { result ≡ words_of (component_from (number_in version) file.now at) }
 {
-    if word_at(file, 3) == 1 {
-        return 0;
+    let mark = match version {
+        Version::First => 0,
+        Version::Second => word_at(file, at + 6),
+    };
+    [
+        word_at(file, at),
+        word_at(file, at + 2),
+        word_at(file, at + 4),
+        mark,
+    ]
+}
+
+impl StackFile<'_> {
+    // The byte at which the component's bytes start that has i others before it.
+    #[tactic(auto, using(crate::proofs::Valid::within))]
+    fn start(&self, i: usize) -> usize
+        requires { i < self.now.n }
+        ensures value { result ≡ 7 + bytes_each (number_in self.now.version) * i }
+        ensures upper_bound { result + bytes_each (number_in self.now.version) ≤ length self.now.file.now }
+    {
+        7 + self.version.bytes_each() * i
     }
-    word_at(file, at + 6)
-}
 
-fn component_at(file: &[u8], p: Position) -> Component
-    requires { Within file.now p.before }
-    ensures { result ≡ component_at file.now p.before }
-{
-    let at = 7 + bytes_each(file) * p.before;
-    Component {
-        height: Rows(word_at(file, at)),
-        width: Slices(word_at(file, at + 2)),
-        gap: Rows(word_at(file, at + 4)),
-        mark: mark_from(file, at),
+    fn piece(&self, p: Position) -> Piece
+        requires { p.before < self.now.n }
+        ensures { result ≡ piece_of (component_at self.now.file.now p.before) }
+    {
+        let [height, width, gap, mark] = words_from(self.file, self.version, self.start(p.before));
+        Piece {
+            height,
+            width,
+            gap,
+            barred: mark == 1,
+        }
+    }
+
+    // Where the component's bytes stand that has i others before it.
+    fn bytes(&self, i: usize) -> Range<usize>
+        requires { i < self.now.n }
+        ensures value { result ≡ place_at self.now.file.now i }
+        ensures upper_bound { result.end ≤ length self.now.file.now }
+    {
+        let start = self.start(i);
+        start..start + self.version.bytes_each()
     }
 }
 
-// Whether each of the file's n components keeps the rule.
-fn file_stands<R: Rule>(file: &[u8], n: usize) -> bool
-    requires { (7 + bytes_each (version_of file.now) * n ≤ length file.now) × (n ≤ most_apart) }
-    ensures { result ≡ every R.rule (components_of file.now n) }
+impl Components for StackFile<'_> {
+    ghost count = { λ f. f.n };
+
+    ghost at = { λ f. component_at f.file.now };
+
+    fn len(&self) -> usize {
+        self.n
+    }
+
+    fn component(&self, p: Position) -> Component {
+        let [height, width, gap, mark] = words_from(self.file, self.version, self.start(p.before));
+        Component {
+            height: Rows(u32::from(height)),
+            width: Slices(u32::from(width)),
+            gap: Rows(u32::from(gap)),
+            mark: u32::from(mark),
+        }
+    }
+}
+
+// Whether each component keeps the rule.
+fn all_stand<R: Rule, L: Components>(list: &L) -> bool
+    requires { L.count list.now ≤ most_apart }
+    ensures { result ≡ every R.rule (tabulate (L.at list.now) (L.count list.now)) }
 {
+    let n = list.len();
     let mut p = Position::first();
     // By positions, as document 01 asks: one moves on by a component and becomes the next.
     while p.before < n {
-        let c = component_at(file, p);
+        let c = list.component(p);
         let last = p.before + 1 == n;
         if !R::stands(c, last) {
             return false;
@@ -95,78 +217,107 @@ fn file_stands<R: Rule>(file: &[u8], n: usize) -> bool
     true
 }
 
-// Refusals 4 to 6 and 11 of the file's n components.
-#[tactic(auto, using(crate::proofs::Columns::counts), unfolding(terms::specs::Component::stack_of))]
-fn check_components(file: &[u8], n: usize, kind: Kind) -> Result<usize, Refusal>
-    requires { 7 + bytes_each (version_of file.now) * n ≤ length file.now }
-    ensures { answer_of result ≡ count_of (stack_of (most_of kind) (components_of file.now n)) }
+// Refusals 4 to 6 and 11 of components.
+#[tactic(auto, using(crate::proofs::Columns::tabulated), unfolding(terms::specs::Component::stack_of))]
+pub fn check_stack<L: Components>(list: &L, kind: Kind) -> Result<usize, Refusal>
+    ensures value { answer_of result ≡ count_of (stack_of (most_of kind) (tabulate (L.at list.now) (L.count list.now))) }
+    ensures count { IfOk result (λ n. (n ≡ L.count list.now) × (n ≤ most_apart)) }
 {
+    let n = list.len();
     if n == 0 || terms::most(kind) < n {
         return Err(Refusal::StackSize);
     }
-    if !file_stands::<SizeRule>(file, n) {
+    if !all_stand::<SizeRule, L>(list) {
         return Err(Refusal::BadComponent);
     }
-    if !file_stands::<GapRule>(file, n) {
+    if !all_stand::<GapRule, L>(list) {
         return Err(Refusal::BadGap);
     }
-    if !file_stands::<MarkRule>(file, n) {
+    if !all_stand::<MarkRule, L>(list) {
         return Err(Refusal::BadMark);
     }
     Ok(n)
 }
 
+// The file with its count, where the check accepts it.
+fn checked(file: &[u8], kind: Kind) -> Result<StackFile<'_>, Refusal>
+    ensures count { mapped (λ f. f.n) (answer_of result) ≡ count_of (check_of kind file.now) }
+    ensures same_file { IfOk result (λ f. f.file.now ≡ file.now) }
+{
+    let file = header(file)?;
+    check_stack(&file, kind)?;
+    Ok(file)
+}
+
 pub fn check(file: &[u8], kind: Kind) -> Result<usize, Refusal>
     ensures { answer_of result ≡ count_of (check_of kind file.now) }
 {
-    check_components(file, header(file)?, kind)
+    Ok(checked(file, kind)?.n)
 }
 
 // The file's n components as pieces, in front of what the list held.
-fn fill_pieces(file: &[u8], n: usize, room: &mut [Piece])
-    requires { Fillable file.now n (length room.old) }
-    ensures { room.new ≡ column_into piece_of file.now n room.old }
+fn fill_pieces(file: &StackFile<'_>, room: &mut [Piece])
+    requires { Fillable file.now.file.now file.now.n (length room.old) }
+    ensures { room.new ≡ column_into piece_of file.now.file.now file.now.n room.old }
 {
     let mut p = Position::first();
     // By positions, as document 01 asks: one moves on by a component and becomes the next.
-    while p.before < n {
-        room[p.before] = terms::packed(component_at(file, p));
+    while p.before < file.n {
+        room[p.before] = file.piece(p);
         p = p.next();
     }
 }
 
-// Reads in a call of the kind.
+// The pieces into a list that is lent, in a call of the kind. `Stack::read` is this with a list that is long enough: here alone
+// the list may be too short.
 pub fn read_pieces(file: &[u8], kind: Kind, room: &mut [Piece]) -> Result<usize, Refusal>
     ensures { Pieced kind file.now room.old (answer_of result) room.new }
 {
-    let n = check(file, kind)?;
+    let checked = checked(file, kind)?;
+    let n = checked.n;
     if room.len() < n {
         return Err(Refusal::ShortBuffer);
     }
-    fill_pieces(file, n, room);
+    fill_pieces(&checked, room);
     Ok(n)
+}
+
+impl Stack {
+    // Reads in a call of the kind.
+    pub fn read(file: &[u8], kind: Kind) -> Result<Stack, Refusal>
+        ensures { answer_of result ≡ pieces_of kind file.now }
+    {
+        let mut room = [Piece::EMPTY; MOST_APART];
+        let n = read_pieces(file, kind, &mut room)?;
+        Ok(Stack { room, n })
+    }
+
+    pub fn pieces(&self) -> &[Piece]
+        ensures { result.now ≡ self.now }
+    {
+        &self.room[..self.n]
+    }
 }
 
 // The file's n components into the four lists.
 fn fill(
-    file: &[u8],
-    n: usize,
+    file: &StackFile<'_>,
     heights: &mut [u16],
     widths: &mut [u16],
     gaps: &mut [u16],
     marks: &mut [u16],
 )
-    requires heights_widths { Fillable file.now n (length heights.old) × Fillable file.now n (length widths.old) }
-    requires gaps_marks { Fillable file.now n (length gaps.old) × Fillable file.now n (length marks.old) }
-    ensures { Filled file.now n
+    requires { Fillable file.now.file.now file.now.n
+        (least_length heights.old widths.old gaps.old marks.old) }
+    ensures { Filled file.now.file.now file.now.n
         heights.old widths.old gaps.old marks.old
         heights.new widths.new gaps.new marks.new }
 {
     let mut p = Position::first();
     // By positions, as document 01 asks: one moves on by a component and becomes the next.
-    while p.before < n {
+    while p.before < file.n {
         let i = p.before;
-        let c = terms::packed(component_at(file, p));
+        let c = file.piece(p);
         heights[i] = c.height;
         widths[i] = c.width;
         gaps[i] = c.gap;
@@ -186,31 +337,33 @@ pub fn read(
         heights.old widths.old gaps.old marks.old (answer_of result)
         heights.new widths.new gaps.new marks.new }
 {
-    let n = check(file, Kind::Apart)?;
+    let checked = checked(file, Kind::Apart)?;
+    let n = checked.n;
     let sizes = heights.len().min(widths.len());
     let room = sizes.min(gaps.len()).min(marks.len());
     if room < n {
         return Err(Refusal::ShortBuffer);
     }
-    fill(file, n, heights, widths, gaps, marks);
+    fill(&checked, heights, widths, gaps, marks);
     Ok(n)
 }
 
-// The bytes of the component that has i others before it.
-fn bytes_at<'a>(file: &'a [u8], i: usize) -> &'a [u8]
-    requires { Within file.now i }
-    ensures { result.now ≡ bytes_at file.now i }
+// Where the bytes of the component with that number stand in the file.
+pub fn place(file: &[u8], number: usize) -> Option<Range<usize>>
+    ensures value { result ≡ place_of file.now number }
+    ensures in_file { IfSome result (λ at. at.end ≤ length file.now) }
 {
-    let each = bytes_each(file);
-    let from = 7 + each * i;
-    &file[from..from + each]
+    match checked(file, Kind::Apart) {
+        Ok(f) if 1 <= number && number <= f.n => Some(f.bytes(number - 1)),
+        _ => None,
+    }
 }
 
-pub fn lookup<'a>(file: &'a [u8], number: usize) -> &'a [u8]
+pub fn lookup(file: &[u8], number: usize) -> &[u8]
     ensures { result.now ≡ lookup_of file.now number }
 {
-    match check(file, Kind::Apart) {
-        Ok(n) if 1 <= number && number <= n => bytes_at(file, number - 1),
-        _ => &file[..0],
+    match place(file, number) {
+        Some(at) => &file[at],
+        None => &file[..0],
     }
 }

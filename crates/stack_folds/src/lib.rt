@@ -106,21 +106,19 @@ pub fn folds_read(
     stack::read(file, heights, widths, gaps, marks).into()
 }
 
-// What `stack::lookup` shows is as long as a component, or empty.
 pub fn folds_lookup(file: &[u8], number: usize) -> Part
     ensures value { result ≡ part_code (check_of Apart file.now) file.now number }
     ensures file_value { take result.length (drop result.start file.now) ≡ lookup_of file.now number }
 {
-    let each = stack::lookup(file, number).len();
-    if each == 0 {
-        return Part {
+    match stack::place(file, number) {
+        Some(at) => Part {
+            start: at.start,
+            length: at.end - at.start,
+        },
+        None => Part {
             start: 0,
             length: 0,
-        };
-    }
-    Part {
-        start: 7 + each * (number - 1),
-        length: each,
+        },
     }
 }
 

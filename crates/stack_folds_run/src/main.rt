@@ -11,28 +11,29 @@ use terms::LEAST_WORK;
 
 // Stack E: heights 1, widths 3, 1, 1, 3, gaps 0.
 const E: [u8; 31] =
-    *b"STK\x01\x00\x04\x00\x01\x00\x03\x00\x00\x00\x01\x00\x01\x00\x00\x00\x01\x00\x01\x00\x00\x00\x01\x00\x03\x00\x00\x00";
+    *b"STK\x01\0\x04\0\x01\0\x03\0\0\0\x01\0\x01\0\0\0\x01\0\x01\0\0\0\x01\0\x03\0\0\0";
 
 // E in version 2, barred after its second component, whose gap of 5 then never counts.
 const BARRED: [u8; 39] =
     *b"STK\x02\0\x04\0\x01\0\x03\0\0\0\0\0\x01\0\x01\0\x05\0\x01\0\x01\0\x01\0\0\0\0\0\x01\0\x03\0\0\0\0\0";
 
 // Version 3.
-const OTHER: [u8; 7] = *b"STK\x03\x00\x00\x00";
+const OTHER: [u8; 7] = *b"STK\x03\0\0\0";
 
 // One component, whose mark is 1.
-const LAST: [u8; 15] = *b"STK\x02\x00\x01\x00\x01\x00\x01\x00\x00\x00\x01\x00";
+const LAST: [u8; 15] = *b"STK\x02\0\x01\0\x01\0\x01\0\0\0\x01\0";
+
+// The four components one above the other, and with a fold after the second.
+const FLAT: [u32; 12] = [0, 0, 3, 0, 0, 2, 0, 0, 1, 0, 0, 0];
+
+const FOLDED: [u32; 12] = [0, 0, 1, 0, 0, 0, 0, 1, 0, 0, 1, 2];
 
 fn say_count(out: &mut impl Write, label: &str, c: Count) -> io::Result<()> {
     writeln!(out, "{label} {} {}", c.refusal, c.count)
 }
 
-fn say_extent(out: &mut impl Write, label: &str, e: Extent) -> io::Result<()> {
-    writeln!(out, "{label} {} {} {}", e.refusal, e.width, e.height)
-}
-
-fn say_part(out: &mut impl Write, label: &str, p: Part) -> io::Result<()> {
-    writeln!(out, "{label} {} {}", p.start, p.length)
+fn say_extent(out: &mut impl Write, label: &str, call: &str, e: Extent) -> io::Result<()> {
+    writeln!(out, "{label} {call} {} {} {}", e.refusal, e.width, e.height)
 }
 
 fn say_list(out: &mut impl Write, label: &str, list: &[impl Display]) -> io::Result<()> {
@@ -43,18 +44,27 @@ fn say_list(out: &mut impl Write, label: &str, list: &[impl Display]) -> io::Res
     writeln!(out)
 }
 
+fn lookup_case(out: &mut impl Write, label: &str, file: &[u8], number: usize) -> io::Result<()> {
+    let Part { start, length } = folds_lookup(file, number);
+    writeln!(out, "{label} {number} {start} {length}")
+}
+
+// The first component, the last, and one that is not there.
+fn lookup_cases(out: &mut impl Write, label: &str, file: &[u8]) -> io::Result<()> {
+    for number in [1, 4, 5] {
+        lookup_case(out, label, file, number)?;
+    }
+    Ok(())
+}
+
 fn file_cases(out: &mut impl Write) -> io::Result<()> {
     say_count(out, "check", folds_check(&E, true))?;
     say_count(out, "check barred", folds_check(&BARRED, true))?;
     say_count(out, "check other", folds_check(&OTHER, true))?;
     say_count(out, "check last", folds_check(&LAST, false))?;
-    say_part(out, "lookup 1", folds_lookup(&E, 1))?;
-    say_part(out, "lookup 4", folds_lookup(&E, 4))?;
-    say_part(out, "lookup 5", folds_lookup(&E, 5))?;
-    say_part(out, "barred lookup 1", folds_lookup(&BARRED, 1))?;
-    say_part(out, "barred lookup 4", folds_lookup(&BARRED, 4))?;
-    say_part(out, "barred lookup 5", folds_lookup(&BARRED, 5))?;
-    say_part(out, "last lookup 1", folds_lookup(&LAST, 1))
+    lookup_cases(out, "lookup", &E)?;
+    lookup_cases(out, "barred lookup", &BARRED)?;
+    lookup_case(out, "last lookup", &LAST, 1)
 }
 
 // What reading gives, and the file that the writer makes of it.
@@ -83,20 +93,30 @@ fn file_twice(out: &mut impl Write, file: &[u8]) -> io::Result<()> {
     list_cases(out, &written, &mut again)
 }
 
+// Foldings of a file's four components, each with its name and whether it is nested.
+fn measure_cases(
+    out: &mut impl Write,
+    label: &str,
+    file: &[u8],
+    foldings: &[(&str, bool, [u32; 12])],
+) -> io::Result<()> {
+    for (name, nested, flat) in foldings {
+        say_extent(out, label, name, folds_measure(file, *nested, flat))?;
+    }
+    Ok(())
+}
+
 // Nested and apart, the nested folding beside the apart one.
 fn placement_cases(out: &mut impl Write) -> io::Result<()> {
-    let flat = [0, 0, 3, 0, 0, 2, 0, 0, 1, 0, 0, 0];
-    let folded = [0, 0, 1, 0, 0, 0, 0, 1, 0, 0, 1, 2];
-    say_extent(out, "measure apart", folds_measure(&E, false, &flat))?;
-    say_extent(out, "measure nested", folds_measure(&E, true, &folded))?;
-    say_extent(
-        out,
-        "measure folded apart",
-        folds_measure(&E, false, &folded),
-    )?;
-    let second = folds_choose(&E, true, &flat, &folded);
-    let first = folds_choose(&E, true, &folded, &flat);
-    let neither = folds_choose(&E, false, &flat, &folded);
+    let foldings = [
+        ("apart", false, FLAT),
+        ("nested", true, FOLDED),
+        ("folded apart", false, FOLDED),
+    ];
+    measure_cases(out, "measure", &E, &foldings)?;
+    let second = folds_choose(&E, true, &FLAT, &FOLDED);
+    let first = folds_choose(&E, true, &FOLDED, &FLAT);
+    let neither = folds_choose(&E, false, &FLAT, &FOLDED);
     writeln!(out, "choose second {second}")?;
     writeln!(out, "choose first {first}")?;
     writeln!(out, "choose neither {neither}")
@@ -104,31 +124,15 @@ fn placement_cases(out: &mut impl Write) -> io::Result<()> {
 
 // A fold, or a next group, behind the second component is barred; one behind the third is not.
 fn barred_cases(out: &mut impl Write) -> io::Result<()> {
-    let flat = [0, 0, 3, 0, 0, 2, 0, 0, 1, 0, 0, 0];
-    let folded = [0, 0, 1, 0, 0, 0, 0, 1, 0, 0, 1, 2];
-    let parted = [0, 0, 1, 0, 0, 0, 1, 0, 1, 1, 0, 0];
     let later = [0, 0, 2, 0, 0, 1, 0, 0, 0, 0, 1, 0];
-    say_extent(
-        out,
-        "barred measure flat",
-        folds_measure(&BARRED, false, &flat),
-    )?;
-    say_extent(
-        out,
-        "barred measure folded",
-        folds_measure(&BARRED, true, &folded),
-    )?;
-    say_extent(
-        out,
-        "barred measure parted",
-        folds_measure(&BARRED, false, &parted),
-    )?;
-    say_extent(
-        out,
-        "barred measure later",
-        folds_measure(&BARRED, true, &later),
-    )?;
-    let neither = folds_choose(&BARRED, true, &later, &folded);
+    let foldings = [
+        ("flat", false, FLAT),
+        ("folded", true, FOLDED),
+        ("parted", false, [0, 0, 1, 0, 0, 0, 1, 0, 1, 1, 0, 0]),
+        ("later", true, later),
+    ];
+    measure_cases(out, "barred measure", &BARRED, &foldings)?;
+    let neither = folds_choose(&BARRED, true, &later, &FOLDED);
     writeln!(out, "barred choose neither {neither}")
 }
 
@@ -136,17 +140,13 @@ fn fold_cases(out: &mut impl Write, label: &str, file: &[u8], nested: bool) -> i
     let mut placements = [0u32; 12];
     let mut work = [0u32; LEAST_WORK];
     let low = folds_to_height(file, nested, 2, &mut placements, &mut work);
-    write!(out, "{label}")?;
-    say_extent(out, " to height 2", low)?;
+    say_extent(out, label, "to height 2", low)?;
     let three = folds_to_width(file, nested, 3, &mut placements, &mut work);
-    write!(out, "{label}")?;
-    say_extent(out, " to width 3", three)?;
+    say_extent(out, label, "to width 3", three)?;
     let two = folds_to_width(file, nested, 2, &mut placements, &mut work);
-    write!(out, "{label}")?;
-    say_extent(out, " to width 2", two)?;
+    say_extent(out, label, "to width 2", two)?;
     let smallest = folds_smallest_area(file, nested, &mut placements, &mut work);
-    write!(out, "{label}")?;
-    say_extent(out, " smallest area", smallest)
+    say_extent(out, label, "smallest area", smallest)
 }
 
 // Three pairs, and what the fourth place held before.

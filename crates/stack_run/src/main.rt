@@ -1,13 +1,34 @@
 // Runs the calls on stack files at their edges and writes what each answers, a line a case.
 #![tactic(auto)]
 
-ghost use Rattle.std.specs.Prelude.{◌+◌, ◌*◌, ◌≡◌, ◌≤◌, length};
+ghost use Rattle.std.specs.Prelude.{◌≤◌};
 
+use std::alloc::{AllocError, Global};
+use std::fmt;
 use std::io::{self, BufWriter, Write};
+use terms::Kind::{Apart, Nested};
 use terms::{Kind, Refusal};
 
+// Two components of height and width 1, in version 1 and in version 2.
+const TWO: [u8; 19] = *b"STK\x01\0\x02\0\x01\0\x01\0\0\0\x01\0\x01\0\0\0";
+
+const TWO_MARKED: [u8; 23] = *b"STK\x02\0\x02\0\x01\0\x01\0\0\0\0\0\x01\0\x01\0\0\0\0\0";
+
+// What a call answers, as it is printed: a count, or a refusal's number.
+#[derive(Clone, Copy, Debug, PartialEq, Eq)]
+struct Answer(Result<usize, Refusal>);
+
+impl fmt::Display for Answer {
+    fn fmt<W: fmt::Write>(&self, f: &mut fmt::Formatter<W>) -> fmt::Result {
+        match self.0 {
+            Ok(n) => write!(f, "{n}"),
+            Err(k) => write!(f, "refused {}", k.number()),
+        }
+    }
+}
+
 // The four lists of a stack.
-#[derive(Clone, Copy)]
+#[derive(Clone, Copy, Debug, PartialEq, Eq)]
 struct Lists<'a> {
     heights: &'a [u16],
     widths: &'a [u16],
@@ -15,10 +36,71 @@ struct Lists<'a> {
     marks: &'a [u16],
 }
 
-fn say_answer(out: &mut impl Write, answer: Result<usize, Refusal>) -> io::Result<()> {
-    match answer {
-        Ok(n) => writeln!(out, "{n}"),
-        Err(k) => writeln!(out, "refused {}", k.number()),
+impl Lists<'_> {
+    fn write(self, file: &mut [u8]) -> Result<usize, Refusal> {
+        stack_write::write(self.heights, self.widths, self.gaps, self.marks, file)
+    }
+}
+
+// Four lists to read a stack into.
+#[derive(Drop)]
+struct Room {
+    heights: Vec<u16>,
+    widths: Vec<u16>,
+    gaps: Vec<u16>,
+    marks: Vec<u16>,
+}
+
+impl Room {
+    // Nines, as many in each list.
+    fn new(alloc: Global, lengths: [usize; 4]) -> Result<Room, AllocError> {
+        let [heights, widths, gaps, marks] = lengths;
+        Ok(Room {
+            heights: vec![in alloc; 9; heights]?,
+            widths: vec![in alloc; 9; widths]?,
+            gaps: vec![in alloc; 9; gaps]?,
+            marks: vec![in alloc; 9; marks]?,
+        })
+    }
+
+    fn read(&mut self, file: &[u8]) -> Result<usize, Refusal> {
+        stack::read(
+            file,
+            &mut self.heights,
+            &mut self.widths,
+            &mut self.gaps,
+            &mut self.marks,
+        )
+    }
+
+    fn lists(&self) -> Lists<'_> {
+        Lists {
+            heights: &self.heights,
+            widths: &self.widths,
+            gaps: &self.gaps,
+            marks: &self.marks,
+        }
+    }
+}
+
+// The version that a made file says, and the bytes of each of its components.
+#[derive(Clone, Copy, Debug, PartialEq, Eq)]
+struct Form<'a> {
+    label: &'a str,
+    version: u16,
+    component: &'a [u8],
+}
+
+impl Form<'_> {
+    // A file of n components.
+    fn file(self, alloc: Global, n: u16) -> Result<Vec<u8>, AllocError> {
+        let mut file = vec![in alloc; b'S', b'T', b'K']?;
+        file.extend_from_slice(&self.version.to_le_bytes())?;
+        file.extend_from_slice(&n.to_le_bytes())?;
+        for _ in 0..n {
+            file.extend_from_slice(self.component)?;
+        }
+        Ok(file)
     }
 }
 
@@ -29,214 +111,244 @@ fn put(file: &mut [u8], i: usize, x: u16) {
     }
 }
 
-// Letters, version and count, and n components of height and width 1 with this many bytes each, as far as there is room; what
-// stood in the file else stays. Gives the file's length.
-fn make(file: &mut [u8], version: u16, each: usize, n: u16) -> usize
-    requires { (4 ≤ each) × (each ≤ 8) × (n ≤ 300) × (7 ≤ length file.old) }
-    ensures { result ≡ 7 + each * n }
-{
-    let (header, body) = file.split_at_mut(7);
-    header[..3].copy_from_slice(b"STK");
-    put(header, 3, version);
-    put(header, 5, n);
-    for component in body.chunks_exact_mut(each).take(n as usize) {
-        put(component, 0, 1);
-        put(component, 2, 1);
+// The file with other numbers, each at its byte.
+fn changed<const N: usize>(mut file: [u8; N], changes: &[(usize, u16)]) -> [u8; N] {
+    for (i, x) in changes {
+        put(&mut file, *i, *x);
     }
-    7 + each * n as usize
-}
-
-// A file of two components of height and width 1, in version 1 and in version 2.
-fn two() -> [u8; 19] {
-    let mut space = [0u8; 19];
-    make(&mut space, 1, 6, 2);
-    space
-}
-
-fn two_marked() -> [u8; 23] {
-    let mut space = [0u8; 23];
-    make(&mut space, 2, 8, 2);
-    space
-}
-
-// The check of a file.
-fn check_case(out: &mut impl Write, label: &str, file: &[u8], kind: Kind) -> io::Result<()> {
-    write!(out, "{label} ")?;
-    say_answer(out, stack::check(file, kind))
-}
-
-// The check of a made file of n components, in both kinds.
-fn count_case(
-    out: &mut impl Write,
-    label: &str,
-    version: u16,
-    each: usize,
-    n: u16,
-) -> io::Result<()>
-    requires { (4 ≤ each) × (each ≤ 8) × (n ≤ 300) }
-{
-    let mut space = [0u8; 2407];
-    let end = make(&mut space, version, each, n);
-    write!(out, "{label} apart ")?;
-    say_answer(out, stack::check(&space[..end], Kind::Apart))?;
-    write!(out, "{label} nested ")?;
-    say_answer(out, stack::check(&space[..end], Kind::Nested))
-}
-
-// The check of two components with one number changed.
-fn word_case(out: &mut impl Write, label: &str, i: usize, x: u16, kind: Kind) -> io::Result<()> {
-    let mut space = two();
-    put(&mut space, i, x);
-    check_case(out, label, &space, kind)
-}
-
-fn marked_word_case(out: &mut impl Write, label: &str, i: usize, x: u16) -> io::Result<()> {
-    let mut space = two_marked();
-    put(&mut space, i, x);
-    check_case(out, label, &space, Kind::Nested)
-}
-
-// A bad gap stands before a bad height.
-fn order_case(out: &mut impl Write) -> io::Result<()> {
-    let mut space = two();
-    put(&mut space, 11, 4001);
-    put(&mut space, 13, 0);
-    check_case(out, "gap 4001 before height 0:", &space, Kind::Apart)
-}
-
-// A bad mark stands before another bad number.
-fn mark_order_case(out: &mut impl Write, label: &str, i: usize, x: u16) -> io::Result<()> {
-    let mut space = two_marked();
-    put(&mut space, 13, 2);
-    put(&mut space, i, x);
-    write!(out, "mark 2 before ")?;
-    check_case(out, label, &space, Kind::Apart)
-}
-
-// The first bytes of two components, or all and one byte more.
-fn prefix_case(out: &mut impl Write, version: u16, each: usize, end: usize) -> io::Result<()>
-    requires { (4 ≤ each) × (each ≤ 8) × (end ≤ 24) }
-{
-    let mut space = [0u8; 24];
-    make(&mut space, version, each, 2);
-    write!(out, "prefix {end} ")?;
-    say_answer(out, stack::check(&space[..end], Kind::Apart))
-}
-
-// In version 2 the length of version 1 is wrong, as is one byte less or more.
-fn prefix_cases(out: &mut impl Write) -> io::Result<()> {
-    for end in 0..=20 {
-        prefix_case(out, 1, 6, end)?;
-    }
-    writeln!(out, "version 2")?;
-    prefix_case(out, 2, 8, 6)?;
-    prefix_case(out, 2, 8, 7)?;
-    prefix_case(out, 2, 8, 19)?;
-    prefix_case(out, 2, 8, 22)?;
-    prefix_case(out, 2, 8, 23)?;
-    prefix_case(out, 2, 8, 24)
-}
-
-// Two bytes, the first a letter's, changed.
-fn letter_cases(out: &mut impl Write) -> io::Result<()> {
-    word_case(out, "letters sT", 0, 21619, Kind::Apart)?;
-    word_case(out, "letters SU", 0, 21843, Kind::Apart)?;
-    word_case(out, "letter L", 2, 332, Kind::Apart)
+    file
 }
 
 // Components of sizes 4,000 by 1 and 1 by 77, with a gap of 600 between them; in version 2 a fold is barred there.
 fn sample() -> [u8; 19] {
-    let mut space = two();
-    put(&mut space, 7, 4000);
-    put(&mut space, 11, 600);
-    put(&mut space, 15, 77);
-    space
+    changed(TWO, &[(7, 4000), (11, 600), (15, 77)])
 }
 
 fn marked_sample() -> [u8; 23] {
-    let mut space = two_marked();
-    put(&mut space, 7, 4000);
-    put(&mut space, 11, 600);
-    put(&mut space, 13, 1);
-    put(&mut space, 17, 77);
-    space
+    changed(TWO_MARKED, &[(7, 4000), (11, 600), (13, 1), (17, 77)])
 }
 
-fn say_list(out: &mut impl Write, list: &[u16]) -> io::Result<()> {
-    for x in list {
-        write!(out, "{x} ")?;
+// The check of a made file of n components, in both kinds.
+fn count_case(out: &mut impl Write, alloc: Global, form: Form, n: u16) -> io::Result<()> {
+    let label = form.label;
+    let file = form.file(alloc, n)?;
+    writeln!(
+        out,
+        "{label}n {n} apart {}",
+        Answer(stack::check(&file, Apart))
+    )?;
+    writeln!(
+        out,
+        "{label}n {n} nested {}",
+        Answer(stack::check(&file, Nested))
+    )
+}
+
+fn form_cases(out: &mut impl Write, alloc: Global, form: Form) -> io::Result<()> {
+    for n in [0, 1, 64, 65, 256, 257] {
+        count_case(out, alloc, form, n)?;
     }
     Ok(())
 }
 
-// The file read into lists.
-fn read_case(
-    out: &mut impl Write,
-    label: &str,
-    file: &[u8],
-    h: &mut [u16],
-    w: &mut [u16],
-    g: &mut [u16],
-    m: &mut [u16],
-) -> io::Result<()> {
-    write!(out, "{label} ")?;
-    let answer = stack::read(file, h, w, g, m);
-    say_list(out, h)?;
-    say_list(out, w)?;
-    say_list(out, g)?;
-    say_list(out, m)?;
-    say_answer(out, answer)
+// In each version, and where the components have the bytes of the other.
+fn count_cases(out: &mut impl Write, alloc: Global) -> io::Result<()> {
+    let plain = Form {
+        label: "",
+        version: 1,
+        component: &[1, 0, 1, 0, 0, 0],
+    };
+    let marked = Form {
+        label: "version 2, ",
+        version: 2,
+        component: &[1, 0, 1, 0, 0, 0, 0, 0],
+    };
+    let short = Form {
+        label: "version 2, six bytes each, ",
+        component: plain.component,
+        ..marked
+    };
+    let long = Form {
+        label: "version 1, eight bytes each, ",
+        component: marked.component,
+        ..plain
+    };
+    form_cases(out, alloc, plain)?;
+    form_cases(out, alloc, marked)?;
+    count_case(out, alloc, short, 3)?;
+    count_case(out, alloc, long, 3)
 }
 
-fn read_cases(out: &mut impl Write, label: &str, file: &[u8]) -> io::Result<()> {
-    let mut h = [9u16; 3];
-    let mut w = [9u16; 2];
-    let mut g = [9u16; 4];
-    let mut m = [9u16; 3];
-    read_case(out, label, file, &mut h, &mut w, &mut g, &mut m)
+// The check of a file.
+fn check_case(out: &mut impl Write, label: &str, file: &[u8], kind: Kind) -> io::Result<()> {
+    writeln!(out, "{label} {}", Answer(stack::check(file, kind)))
+}
+
+// The check of a file with one number changed: what it is then, the number's byte, and the number.
+fn word_cases<const N: usize>(
+    out: &mut impl Write,
+    file: [u8; N],
+    kind: Kind,
+    words: &[(&str, usize, u16)],
+) -> io::Result<()> {
+    for (label, i, x) in words {
+        check_case(out, label, &changed(file, &[(*i, *x)]), kind)?;
+    }
+    Ok(())
+}
+
+fn plain_cases(out: &mut impl Write) -> io::Result<()> {
+    let words = [
+        ("height 0", 7, 0),
+        ("height 1", 7, 1),
+        ("height 4000", 7, 4000),
+        ("height 4001", 7, 4001),
+        ("width 0", 15, 0),
+        ("width 1", 15, 1),
+        ("width 4000", 15, 4000),
+        ("width 4001", 15, 4001),
+        ("gap 4000", 11, 4000),
+        ("gap 4001", 11, 4001),
+        ("last gap 1", 17, 1),
+        ("version 0", 3, 0),
+        ("version 3", 3, 3),
+        ("version 256", 3, 256),
+        ("version 257", 3, 257),
+        ("version 258", 3, 258),
+    ];
+    word_cases(out, TWO, Nested, &words)
+}
+
+// A bad gap stands before a bad height.
+fn order_case(out: &mut impl Write) -> io::Result<()> {
+    let file = changed(TWO, &[(11, 4001), (13, 0)]);
+    check_case(out, "gap 4001 before height 0:", &file, Apart)
+}
+
+fn marked_cases(out: &mut impl Write) -> io::Result<()> {
+    writeln!(out, "version 2")?;
+    let words = [
+        ("height 0", 15, 0),
+        ("width 4001", 17, 4001),
+        ("gap 4000", 11, 4000),
+        ("gap 4001", 11, 4001),
+        ("last gap 1", 19, 1),
+        ("mark 0", 13, 0),
+        ("mark 1", 13, 1),
+        ("mark 2", 13, 2),
+        ("mark 256", 13, 256),
+        ("mark 257", 13, 257),
+        ("last mark 1", 21, 1),
+        ("last mark 256", 21, 256),
+    ];
+    word_cases(out, TWO_MARKED, Nested, &words)
+}
+
+// A bad mark stands before another bad number.
+fn mark_order_cases(out: &mut impl Write) -> io::Result<()> {
+    let words = [
+        ("mark 2 before height 0", 15, 0),
+        ("mark 2 before last gap 1", 19, 1),
+        ("mark 2 before last mark 1", 21, 1),
+    ];
+    word_cases(out, changed(TWO_MARKED, &[(13, 2)]), Apart, &words)
+}
+
+// Two bytes, the first a letter's, changed.
+fn letter_cases(out: &mut impl Write) -> io::Result<()> {
+    let words = [
+        ("letters sT", 0, 21619),
+        ("letters SU", 0, 21843),
+        ("letter L", 2, 332),
+    ];
+    word_cases(out, TWO, Apart, &words)
+}
+
+// The first bytes of a file, or all and one byte more.
+fn prefix_case(out: &mut impl Write, alloc: Global, file: &[u8], end: usize) -> io::Result<()> {
+    let prefix: Vec<u8> = file.iter().chain(&[0]).take(end).copied().collect(alloc)?;
+    writeln!(out, "prefix {end} {}", Answer(stack::check(&prefix, Apart)))
+}
+
+fn prefix_cases(out: &mut impl Write, alloc: Global) -> io::Result<()> {
+    for end in 0..=20 {
+        prefix_case(out, alloc, &TWO, end)?;
+    }
+    Ok(())
+}
+
+// In version 2 the length of version 1 is wrong, as is one byte less or more.
+fn marked_prefix_cases(out: &mut impl Write, alloc: Global) -> io::Result<()> {
+    writeln!(out, "version 2")?;
+    for end in [6, 7, 19, 22, 23, 24] {
+        prefix_case(out, alloc, &TWO_MARKED, end)?;
+    }
+    Ok(())
+}
+
+fn say(out: &mut impl Write, numbers: &[impl fmt::Display]) -> io::Result<()> {
+    for x in numbers {
+        write!(out, " {x}")?;
+    }
+    Ok(())
+}
+
+// The file read into lists of these lengths.
+fn read_case(
+    out: &mut impl Write,
+    alloc: Global,
+    label: &str,
+    file: &[u8],
+    lengths: [usize; 4],
+) -> io::Result<()> {
+    let mut room = Room::new(alloc, lengths)?;
+    let answer = room.read(file);
+    write!(out, "{label}")?;
+    say(out, &room.heights)?;
+    say(out, &room.widths)?;
+    say(out, &room.gaps)?;
+    say(out, &room.marks)?;
+    writeln!(out, " {}", Answer(answer))
 }
 
 // A list that is one entry short.
-fn short_cases(out: &mut impl Write, file: &[u8]) -> io::Result<()> {
-    let one: &mut [u16] = &mut [9; 1];
-    let h: &mut [u16] = &mut [9; 2];
-    let w: &mut [u16] = &mut [9; 2];
-    let g: &mut [u16] = &mut [9; 2];
-    read_case(out, "read, short heights", file, one, h, w, g)?;
-    read_case(out, "read, short widths", file, h, one, w, g)?;
-    read_case(out, "read, short gaps", file, h, w, one, g)?;
-    read_case(out, "read, short marks", file, h, w, g, one)
-}
-
-// A bad mark is refused before a short list.
-fn bad_mark_cases(out: &mut impl Write) -> io::Result<()> {
-    let mut space = marked_sample();
-    put(&mut space, 21, 1);
-    read_cases(out, "read, last mark 1", &space)?;
-    let h: &mut [u16] = &mut [9; 2];
-    let w: &mut [u16] = &mut [9; 2];
-    let one: &mut [u16] = &mut [9; 1];
-    let none: &mut [u16] = &mut [];
-    let label = "read, last mark 1 and short lists";
-    read_case(out, label, &space, h, w, one, none)?;
-    lookup_case(out, "lookup 1, last mark 1:", &space, 1)
-}
-
-fn say_bytes(out: &mut impl Write, part: &[u8]) -> io::Result<()> {
-    for x in part {
-        write!(out, " {x}")?;
+fn short_cases(out: &mut impl Write, alloc: Global, file: &[u8]) -> io::Result<()> {
+    for (label, lengths) in [
+        ("read, short heights", [1, 2, 2, 2]),
+        ("read, short widths", [2, 1, 2, 2]),
+        ("read, short gaps", [2, 2, 1, 2]),
+        ("read, short marks", [2, 2, 2, 1]),
+    ] {
+        read_case(out, alloc, label, file, lengths)?;
     }
-    writeln!(out)
+    Ok(())
 }
 
 // The bytes of a component by its number.
-fn lookup_case(out: &mut impl Write, label: &str, file: &[u8], number: usize) -> io::Result<()> {
-    write!(out, "{label}")?;
-    say_bytes(out, stack::lookup(file, number))
+fn lookup_cases(out: &mut impl Write, file: &[u8]) -> io::Result<()> {
+    for number in 0..4 {
+        write!(out, "lookup {number}:")?;
+        say(out, stack::lookup(file, number))?;
+        writeln!(out)?;
+    }
+    Ok(())
 }
 
-fn write_lists(lists: Lists, file: &mut [u8]) -> Result<usize, Refusal> {
-    stack_write::write(lists.heights, lists.widths, lists.gaps, lists.marks, file)
+fn file_cases(out: &mut impl Write, alloc: Global, file: &[u8]) -> io::Result<()> {
+    read_case(out, alloc, "read", file, [3, 2, 4, 3])?;
+    short_cases(out, alloc, file)?;
+    lookup_cases(out, file)
+}
+
+// A bad mark is refused before a short list.
+fn bad_mark_cases(out: &mut impl Write, alloc: Global) -> io::Result<()> {
+    let file = changed(marked_sample(), &[(21, 1)]);
+    read_case(out, alloc, "read, last mark 1", &file, [3, 2, 4, 3])?;
+    let label = "read, last mark 1 and short lists";
+    read_case(out, alloc, label, &file, [2, 2, 1, 0])?;
+    write!(out, "lookup 1, last mark 1:")?;
+    say(out, stack::lookup(&file, 1))?;
+    writeln!(out)
 }
 
 // The lists written to the first bytes of a buffer of nines: how many bytes are other than 9 then, and the answer.
@@ -244,10 +356,9 @@ fn write_case(out: &mut impl Write, label: &str, lists: Lists, room: usize) -> i
     requires { room ≤ 2100 }
 {
     let mut space = [9u8; 2100];
-    let answer = write_lists(lists, &mut space[..room]);
+    let answer = Answer(lists.write(&mut space[..room]));
     let touched = space.iter().filter(|x| **x != 9).count();
-    write!(out, "{label} touched {touched} ")?;
-    say_answer(out, answer)
+    writeln!(out, "{label} touched {touched} {answer}")
 }
 
 fn write_cases(out: &mut impl Write) -> io::Result<()> {
@@ -257,29 +368,15 @@ fn write_cases(out: &mut impl Write) -> io::Result<()> {
         gaps: &[4000, 0],
         marks: &[1, 0],
     };
-    let one: &[u16] = &[0];
+    let widths: &[u16] = &[0];
+    let gaps: &[u16] = &[0];
+    let marks: &[u16] = &[0];
     write_case(out, "written", lists, 2100)?;
     write_case(out, "written, exact room", lists, 23)?;
     write_case(out, "written, short room", lists, 22)?;
-    write_case(
-        out,
-        "unequal widths",
-        Lists {
-            widths: one,
-            ..lists
-        },
-        2100,
-    )?;
-    write_case(out, "unequal gaps", Lists { gaps: one, ..lists }, 2100)?;
-    write_case(
-        out,
-        "unequal marks",
-        Lists {
-            marks: one,
-            ..lists
-        },
-        2100,
-    )
+    write_case(out, "unequal widths", Lists { widths, ..lists }, 2100)?;
+    write_case(out, "unequal gaps", Lists { gaps, ..lists }, 2100)?;
+    write_case(out, "unequal marks", Lists { marks, ..lists }, 2100)
 }
 
 // A bad number is refused before a short buffer, and of several the one whose check comes first.
@@ -291,50 +388,27 @@ fn bad_write_cases(out: &mut impl Write) -> io::Result<()> {
         marks: &[2, 0],
     };
     let zero_first: &[u16] = &[0, 1];
-    let past_first: &[u16] = &[4001, 0];
+    let widths: &[u16] = &[1, 4001];
+    let gaps: &[u16] = &[4001, 0];
     let low = Lists {
         heights: zero_first,
-        gaps: past_first,
+        gaps,
+        ..lists
+    };
+    let end_gap = Lists {
+        gaps: zero_first,
+        ..lists
+    };
+    let end_mark = Lists {
+        marks: zero_first,
         ..lists
     };
     write_case(out, "height 0 written", low, 3)?;
-    write_case(
-        out,
-        "width 4001 written",
-        Lists {
-            widths: &[1, 4001],
-            ..lists
-        },
-        3,
-    )?;
-    write_case(
-        out,
-        "gap 4001 written",
-        Lists {
-            gaps: past_first,
-            ..lists
-        },
-        3,
-    )?;
-    write_case(
-        out,
-        "last gap 1 written",
-        Lists {
-            gaps: zero_first,
-            ..lists
-        },
-        3,
-    )?;
+    write_case(out, "width 4001 written", Lists { widths, ..lists }, 3)?;
+    write_case(out, "gap 4001 written", Lists { gaps, ..lists }, 3)?;
+    write_case(out, "last gap 1 written", end_gap, 3)?;
     write_case(out, "mark 2 written", lists, 3)?;
-    write_case(
-        out,
-        "last mark 1 written",
-        Lists {
-            marks: zero_first,
-            ..lists
-        },
-        3,
-    )
+    write_case(out, "last mark 1 written", end_mark, 3)
 }
 
 // As many components as there are ones; gaps and marks are zeros as long.
@@ -352,7 +426,19 @@ fn write_size_cases(out: &mut impl Write) -> io::Result<()> {
     let more = [1u16; 257];
     size_case(out, "none written", &[], &[])?;
     size_case(out, "256 written", &more[..256], &[0; 256])?;
-    size_case(out, "257 written", &more, &more)
+    size_case(out, "257 written", &more, &[0; 257])
+}
+
+// A file read and written again: of either version a file of version 2.
+fn rewritten(out: &mut impl Write, alloc: Global, label: &str, file: &[u8]) -> io::Result<()> {
+    let mut room = Room::new(alloc, [2; 4])?;
+    writeln!(out, "{label} read {}", Answer(room.read(file)))?;
+    let mut again = [0u8; 23];
+    let answer = room.lists().write(&mut again);
+    write!(out, "{label} rewritten")?;
+    say(out, &again)?;
+    writeln!(out)?;
+    writeln!(out, "{}", Answer(answer))
 }
 
 // 1, 1 + step, 1 + 2 step, .., up to 4,000 and round again.
@@ -373,163 +459,66 @@ fn alternate(list: &mut [u16]) {
     }
 }
 
+fn end_with_zero(list: &mut [u16]) {
+    if let Some(last) = list.last_mut() {
+        *last = 0;
+    }
+}
+
 fn differences<T: PartialEq>(a: &[T], b: &[T]) -> usize {
     a.iter().zip(b).filter(|(x, y)| x != y).count()
 }
 
 // 256 components written, read back and written again.
-fn round_trip(out: &mut impl Write, lists: Lists) -> io::Result<()> {
+fn round_trip(out: &mut impl Write, alloc: Global, lists: Lists) -> io::Result<()> {
     let mut file = [0u8; 2055];
-    write!(out, "256 written ")?;
-    say_answer(out, write_lists(lists, &mut file))?;
-    let mut h = [0u16; 256];
-    let mut w = [0u16; 256];
-    let mut g = [0u16; 256];
-    let mut m = [0u16; 256];
-    write!(out, "256 read ")?;
-    say_answer(out, stack::read(&file, &mut h, &mut w, &mut g, &mut m))?;
-    write!(out, "differ: heights {} ", differences(lists.heights, &h))?;
-    write!(out, "widths {} ", differences(lists.widths, &w))?;
-    write!(out, "gaps {} ", differences(lists.gaps, &g))?;
-    write!(out, "marks {} ", differences(lists.marks, &m))?;
+    writeln!(out, "256 written {}", Answer(lists.write(&mut file)))?;
+    let mut room = Room::new(alloc, [256; 4])?;
+    writeln!(out, "256 read {}", Answer(room.read(&file)))?;
+    let read = room.lists();
+    write!(
+        out,
+        "differ: heights {} ",
+        differences(lists.heights, read.heights)
+    )?;
+    write!(out, "widths {} ", differences(lists.widths, read.widths))?;
+    write!(out, "gaps {} ", differences(lists.gaps, read.gaps))?;
+    write!(out, "marks {} ", differences(lists.marks, read.marks))?;
     let mut again = [0u8; 2055];
-    write!(out, "written again ")?;
-    say_answer(out, stack_write::write(&h, &w, &g, &m, &mut again))?;
+    writeln!(out, "written again {}", Answer(read.write(&mut again)))?;
     writeln!(out, "differ: bytes {} ", differences(&file, &again))
 }
 
-fn many(out: &mut impl Write) -> io::Result<()> {
-    let mut h = [0u16; 256];
-    let mut w = [0u16; 256];
-    let mut g = [0u16; 256];
-    let mut m = [0u16; 256];
-    rise(&mut h, 15);
-    rise(&mut w, 1013);
-    rise(&mut g, 3999);
-    alternate(&mut m);
-    g[255] = 0;
-    m[255] = 0;
-    let lists = Lists {
-        heights: &h,
-        widths: &w,
-        gaps: &g,
-        marks: &m,
-    };
-    round_trip(out, lists)
-}
-
-// A file read and written again: of either version a file of version 2.
-fn rewritten(out: &mut impl Write, label: &str, file: &[u8]) -> io::Result<()> {
-    let mut h = [0u16; 2];
-    let mut w = [0u16; 2];
-    let mut g = [0u16; 2];
-    let mut m = [9u16; 2];
-    write!(out, "{label} read ")?;
-    say_answer(out, stack::read(file, &mut h, &mut w, &mut g, &mut m))?;
-    let mut again = [0u8; 23];
-    let answer = stack_write::write(&h, &w, &g, &m, &mut again);
-    write!(out, "{label} rewritten")?;
-    say_bytes(out, &again)?;
-    say_answer(out, answer)
-}
-
-fn count_cases(out: &mut impl Write) -> io::Result<()> {
-    count_case(out, "n 0", 1, 6, 0)?;
-    count_case(out, "n 1", 1, 6, 1)?;
-    count_case(out, "n 64", 1, 6, 64)?;
-    count_case(out, "n 65", 1, 6, 65)?;
-    count_case(out, "n 256", 1, 6, 256)?;
-    count_case(out, "n 257", 1, 6, 257)
-}
-
-fn marked_count_cases(out: &mut impl Write) -> io::Result<()> {
-    count_case(out, "version 2, n 0", 2, 8, 0)?;
-    count_case(out, "version 2, n 1", 2, 8, 1)?;
-    count_case(out, "version 2, n 64", 2, 8, 64)?;
-    count_case(out, "version 2, n 65", 2, 8, 65)?;
-    count_case(out, "version 2, n 256", 2, 8, 256)?;
-    count_case(out, "version 2, n 257", 2, 8, 257)?;
-    count_case(out, "version 2, six bytes each, n 3", 2, 6, 3)?;
-    count_case(out, "version 1, eight bytes each, n 3", 1, 8, 3)
-}
-
-fn word_cases(out: &mut impl Write) -> io::Result<()> {
-    for (label, i, x) in [
-        ("height 0", 7, 0),
-        ("height 1", 7, 1),
-        ("height 4000", 7, 4000),
-        ("height 4001", 7, 4001),
-        ("width 0", 15, 0),
-        ("width 1", 15, 1),
-        ("width 4000", 15, 4000),
-        ("width 4001", 15, 4001),
-        ("gap 4000", 11, 4000),
-        ("gap 4001", 11, 4001),
-        ("last gap 1", 17, 1),
-        ("version 0", 3, 0),
-        ("version 3", 3, 3),
-        ("version 256", 3, 256),
-        ("version 257", 3, 257),
-        ("version 258", 3, 258),
-    ] {
-        word_case(out, label, i, x, Kind::Nested)?;
-    }
-    Ok(())
-}
-
-fn marked_word_cases(out: &mut impl Write) -> io::Result<()> {
-    writeln!(out, "version 2")?;
-    for (label, i, x) in [
-        ("height 0", 15, 0),
-        ("width 4001", 17, 4001),
-        ("gap 4000", 11, 4000),
-        ("gap 4001", 11, 4001),
-        ("last gap 1", 19, 1),
-        ("mark 0", 13, 0),
-        ("mark 1", 13, 1),
-        ("mark 2", 13, 2),
-        ("mark 256", 13, 256),
-        ("mark 257", 13, 257),
-        ("last mark 1", 21, 1),
-        ("last mark 256", 21, 256),
-    ] {
-        marked_word_case(out, label, i, x)?;
-    }
-    mark_order_case(out, "height 0", 15, 0)?;
-    mark_order_case(out, "last gap 1", 19, 1)?;
-    mark_order_case(out, "last mark 1", 21, 1)
-}
-
-fn lookup_cases(out: &mut impl Write, file: &[u8]) -> io::Result<()> {
-    lookup_case(out, "lookup 0:", file, 0)?;
-    lookup_case(out, "lookup 1:", file, 1)?;
-    lookup_case(out, "lookup 2:", file, 2)?;
-    lookup_case(out, "lookup 3:", file, 3)
-}
-
-fn file_cases(out: &mut impl Write, file: &[u8]) -> io::Result<()> {
-    read_cases(out, "read", file)?;
-    short_cases(out, file)?;
-    lookup_cases(out, file)
+fn many(out: &mut impl Write, alloc: Global) -> io::Result<()> {
+    let mut room = Room::new(alloc, [256; 4])?;
+    rise(&mut room.heights, 15);
+    rise(&mut room.widths, 1013);
+    rise(&mut room.gaps, 3999);
+    alternate(&mut room.marks);
+    end_with_zero(&mut room.gaps);
+    end_with_zero(&mut room.marks);
+    round_trip(out, alloc, room.lists())
 }
 
 fn main(rt: HostRuntime) -> io::Result<()> {
-    let mut out = BufWriter::new(rt.alloc(), io::writer(&rt))?;
-    count_cases(&mut out)?;
-    marked_count_cases(&mut out)?;
-    word_cases(&mut out)?;
+    let alloc = rt.alloc();
+    let mut out = BufWriter::new(alloc, io::writer(&rt))?;
+    count_cases(&mut out, alloc)?;
+    plain_cases(&mut out)?;
     order_case(&mut out)?;
-    marked_word_cases(&mut out)?;
-    prefix_cases(&mut out)?;
+    marked_cases(&mut out)?;
+    mark_order_cases(&mut out)?;
+    prefix_cases(&mut out, alloc)?;
+    marked_prefix_cases(&mut out, alloc)?;
     letter_cases(&mut out)?;
-    file_cases(&mut out, &sample())?;
-    file_cases(&mut out, &marked_sample())?;
-    bad_mark_cases(&mut out)?;
+    file_cases(&mut out, alloc, &sample())?;
+    file_cases(&mut out, alloc, &marked_sample())?;
+    bad_mark_cases(&mut out, alloc)?;
     write_cases(&mut out)?;
     bad_write_cases(&mut out)?;
     write_size_cases(&mut out)?;
-    rewritten(&mut out, "version 1", &sample())?;
-    rewritten(&mut out, "version 2", &marked_sample())?;
-    many(&mut out)?;
+    rewritten(&mut out, alloc, "version 1", &sample())?;
+    rewritten(&mut out, alloc, "version 2", &marked_sample())?;
+    many(&mut out, alloc)?;
     out.flush()
 }

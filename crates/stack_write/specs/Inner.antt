@@ -1,6 +1,5 @@
 -- What the functions inside this crate promise each other. Nothing here is part of a public promise.
-use Rattle.std.specs.Prelude.{ℕ, ◌+◌, ◌*◌, ◌≤◌, ◌≡◌, List, ◌++◌, length, drop, set}
-use Rattle.terms.specs.Numbers.{most_apart}
+use Rattle.std.specs.Prelude.{ℕ, ◌+◌, ◌*◌, ◌≡◌, List, ◌++◌, length, drop, set}
 use Rattle.stack_write.specs.File.{low, high, bytes_of}
 use Rattle.stack_write.specs.Call.{entries_of}
 
@@ -9,11 +8,6 @@ pub record Lists (heights widths gaps marks : List ℕ) : Type 0 where
   pub widths_long : length widths ≡ length heights
   pub gaps_long : length gaps ≡ length heights
   pub marks_long : length marks ≡ length heights
-
-pub record Writable (heights widths gaps marks out : List ℕ) : Type 0 where
-  pub lists : Lists heights widths gaps marks
-  pub few : length heights ≤ most_apart
-  pub room : 8 * length heights ≤ length out
 
 -- A buffer that holds a number's two bytes at one place.
 abbrev pub word_into : ℕ → ℕ → List ℕ → List ℕ

@@ -5,12 +5,14 @@ use mathlib.Core.Logic.{◌≢◌}
 use mathlib.Core.List.{List}
 use mathlib.Core.Bool.{Bool, true, false, not}
 use native.Mathlib.Omega.{arith}
+use Rattle.std.proofs.Common.{Result, Ok, Err, IsErrAnd}
 use lib.ListN.{length}
 use lib.Dec.{ltb, eqb}
 use borrow.Author.Tests.{ltb-false, eqb-false, not-false}
 use Rattle.terms.specs.declared.Component.{Component}
 use Rattle.terms.specs.declared.Kind.{Kind}
-use Rattle.terms.specs.Answer.{Answer, refusal, result, refuse_if, and_then}
+use Rattle.terms.specs.declared.Refusal.{Refusal}
+use Rattle.terms.specs.Answer.{Answer, refusal, result, refuse_if, and_then, number_of, answer_of}
 use Rattle.terms.specs.Component.{good_size, good_gap, good_mark, every, most_of, stack_of, count_of}
 
 module _ {A : Type 0} where
@@ -57,3 +59,8 @@ counted a n e = let w = went_on a (λ cs. result (length cs)) n e in (w.0, w.1, 
 pub uncounted : (a : Answer (List Component)) (k : ℕ) → count_of a ≡ refusal k → a ≡ refusal k
 uncounted (refusal j) k e = let m : j ≡ k = cc in rw m
 uncounted (result cs) k e = let z : ◌≡◌ {A = ℕ} 0 1 = cc in absurd (omega arith)
+
+-- The exit of a `?`: the refusal of the call that is asked.
+pub handed_on : {A : Type 0} (k : Refusal) (r : Result A Refusal) → IsErrAnd r (λ j. j ≡ k) → answer_of r ≡ refusal (number_of k)
+handed_on k (Ok v) h = absurd h
+handed_on k (Err j) h = rw h

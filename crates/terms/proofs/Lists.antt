@@ -1,6 +1,6 @@
--- A stack in three lists: its columns, and the components that they make.
+-- The columns of a stack, and the components that they make.
 use Prim.Native.Nat.{ℕ, zero, suc, ◌/◌, ◌%◌, ◌<◌, ◌≤◌}
-use mathlib.Core.Path.{◌≡◌, refl, ap, ◌∙◌}
+use mathlib.Core.Path.{◌≡◌, ◌∙◌}
 use mathlib.Core.List.{List, [], ◌∷◌, map}
 use mathlib.Core.Bool.{Bool, true, false}
 use native.Mathlib.Omega.{arith}
@@ -8,6 +8,7 @@ use lib.ListN.{length, get_or, get_or-map}
 use lib.Seq.{ext_get_or}
 use lib.Dec.{leb}
 use borrow.Author.Tests.{leb-true, eqb-true}
+use Rattle.std.proofs.lemmas.List.{length-map}
 use Rattle.terms.specs.declared.Component.{Component}
 use Rattle.terms.specs.Component.{in_size, good_size, good_mark, ends, every, tabulate}
 use Rattle.terms.specs.Seams.{seam_of, component_in, components_in}
@@ -37,10 +38,6 @@ unfolding every
 all_marked [] e = tt
 all_marked (c ∷ cs) e = let b = both (good_mark c (ends cs)) (every good_mark cs) e in (mark_low c (ends cs) b.0, all_marked cs b.1)
 
-pub length-map : (f : Component → ℕ) (cs : List Component) → length (map f cs) ≡ length cs
-length-map f [] = refl
-length-map f (c ∷ cs) = ap suc (length-map f cs)
-
 pub none : Component
 none = record { height = record { 0 = 0 }; width = record { 0 = 0 }; gap = record { 0 = 0 }; mark = 0 }
 
@@ -60,7 +57,7 @@ pub columns : (cs : List Component) → AllMarked cs → components_in (heights_
 unfolding none
 columns cs a =
     let g : ℕ → Component = component_in (heights_of cs) (widths_of cs) (seams_of cs) in
-    let n : length (heights_of cs) ≡ length cs = length-map (λ c. c.height.0) cs in
+    let n : length (heights_of cs) ≡ length cs = length-map cs (λ c. c.height.0) in
     ext_get_or none (tabulate g (length (heights_of cs))) cs (tabulate-length g (length (heights_of cs)) ∙ n)
     (λ i h.
     tabulate_at g (length (heights_of cs)) i none (omega (arith, tabulate-length g (length (heights_of cs))))

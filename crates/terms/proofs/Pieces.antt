@@ -2,14 +2,12 @@
 use Prim.Native.Nat.{ℕ, zero, suc, ◌≤◌}
 use mathlib.Core.Path.{◌≡◌, refl, ap}
 use mathlib.Core.List.{List, [], ◌∷◌, map}
-use mathlib.Core.Bool.{Bool, true, false}
 use native.Mathlib.Omega.{arith}
 use lib.ListN.{length}
 use lib.Dec.{eqb}
 use Rattle.std.proofs.lemmas.List.{length-map}
 use Rattle.terms.specs.declared.Component.{Component}
 use Rattle.terms.specs.declared.Piece.{Piece}
-use Rattle.terms.specs.Seams.{seam_of}
 use Rattle.terms.specs.Pieces.{mark_of, piece_of, heights_in, widths_in, seams_in, stack_in}
 use Rattle.terms.proofs.Lists.{heights_of, widths_of, seams_of, AllMarked, columns}
 

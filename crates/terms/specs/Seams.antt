@@ -1,5 +1,5 @@
--- How a stack is handed on inside a call: in three lists, heights, widths and seams. A seam is what stands behind a component,
--- in one number of 16 bits: twice its gap, and one more where a fold is barred.
+-- The columns of a stack that is handed on inside a call: its heights, its widths and its seams. A seam is what stands behind
+-- a component, in one number: twice its gap, and one more where a fold is barred.
 -- Nothing here is part of a public promise: `columns` in `proofs/Lists.antt` says that nothing is lost.
 use Rattle.std.specs.Prelude.{ℕ, ◌+◌, ◌*◌, ◌/◌, ◌%◌, List, Bool, length, get_or, eqb}
 use Rattle.terms.specs.declared.Component.{Component}

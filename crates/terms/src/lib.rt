@@ -2,11 +2,12 @@
 // was checked.
 #![tactic(auto)]
 
-ghost use Rattle.std.specs.Prelude.{◌≡◌, ◌<◌, Bool};
+ghost use Rattle.std.specs.Prelude.{◌≡◌, ◌<◌, Bool, Some};
+ghost use Rattle.std.specs.Fmt.{decimal};
 ghost use Rattle.terms.specs.declared.Component.{Component};
 ghost use Rattle.terms.specs.Answer.{number_of};
 ghost use Rattle.terms.specs.Component.{in_size, most_of, good_size, good_gap, good_mark};
-ghost use Rattle.terms.specs.Pieces.{piece_of, component_of};
+ghost use Rattle.terms.specs.Pieces.{component_of};
 ghost use Rattle.terms.specs.Position.{next_of};
 
 use std::error::Error;
@@ -34,7 +35,8 @@ pub struct Rows(pub u32);
 #[derive(Clone, Copy, Debug, PartialEq, Eq, PartialOrd, Ord)]
 pub struct Slices(pub u32);
 
-// A component as a file or a list has it. Its mark is still the number that stands there, for refusal 11 to check.
+// A component with the mark as a number, as a file or a list has it, where refusal 11 still has to check it. The rules of
+// foldings speak of components too: those of a stack that was checked have a mark of 0 or 1.
 #[derive(Clone, Copy, Debug, PartialEq, Eq)]
 pub struct Component {
     pub height: Rows,
@@ -76,7 +78,7 @@ pub enum Refusal {
     BadMark = 11,
 }
 
-// Where reading stands: how many components lie before.
+// Where reading or writing stands: how many components lie before.
 #[derive(Clone, Copy, Debug, PartialEq, Eq)]
 pub struct Position {
     pub before: usize,
@@ -87,6 +89,25 @@ impl Refusal {
         ensures { result ≡ number_of self }
     {
         self as u32
+    }
+}
+
+// The number alone.
+impl fmt::Display for Rows {
+    ghost output = { λ r. Some (decimal r.0) };
+
+    fn fmt<W: fmt::Write>(&self, f: &mut fmt::Formatter<W>) -> fmt::Result {
+        let rows = self.0;
+        write!(f, "{rows}")
+    }
+}
+
+impl fmt::Display for Slices {
+    ghost output = { λ s. Some (decimal s.0) };
+
+    fn fmt<W: fmt::Write>(&self, f: &mut fmt::Formatter<W>) -> fmt::Result {
+        let slices = self.0;
+        write!(f, "{slices}")
     }
 }
 
@@ -142,7 +163,7 @@ pub fn most(kind: Kind) -> usize
 fn in_size(x: u32) -> bool
     ensures { result ≡ in_size x }
 {
-    1 <= x && x <= MOST_SIZE
+    (1..=MOST_SIZE).contains(&x)
 }
 
 // What refusals 5, 6 and 11 ask of each component, which is told whether it is the last.
@@ -171,10 +192,8 @@ impl Rule for GapRule {
     ghost rule = { good_gap };
 
     fn stands(c: Component, last: bool) -> bool {
-        if last {
-            return c.gap.0 == 0;
-        }
-        c.gap.0 <= MOST_SIZE
+        let most = if last { 0 } else { MOST_SIZE };
+        c.gap.0 <= most
     }
 }
 
@@ -182,15 +201,14 @@ impl Rule for MarkRule {
     ghost rule = { good_mark };
 
     fn stands(c: Component, last: bool) -> bool {
-        if last {
-            return c.mark == 0;
-        }
-        c.mark <= 1
+        let most = if last { 0 } else { 1 };
+        c.mark <= most
     }
 }
 
 impl Piece {
-    pub const NONE: Piece = Piece {
+    // What a place in a list holds that no component was read into.
+    pub const EMPTY: Piece = Piece {
         height: 0,
         width: 0,
         gap: 0,
@@ -198,22 +216,8 @@ impl Piece {
     };
 }
 
-// A component as a piece, where its numbers have 16 bits.
-pub fn packed(c: Component) -> Piece
-    requires sizes { (c.height.0 < 65536) × (c.width.0 < 65536) }
-    requires gap { c.gap.0 < 65536 }
-    ensures { result ≡ piece_of c }
-{
-    Piece {
-        height: c.height.0 as u16,
-        width: c.width.0 as u16,
-        gap: c.gap.0 as u16,
-        barred: c.mark == 1,
-    }
-}
-
 impl From<Piece> for Component {
-    ghost from_gives = { λ p c. (c ≡ component_of p) × (c.height.0 < 65536) };
+    ghost from_gives = { λ p c. (c ≡ component_of p) × (c.height.0 < 65536) × (c.width.0 < 65536) × (c.gap.0 < 65536) };
 
     fn from(p: Piece) -> Component {
         Component {

@@ -1,4 +1,4 @@
--- The first group of a layout that the lists of a plan hold, and the rest.
+-- The first group of a layout that a plan holds, and the rest.
 use Prim.Native.Nat.{ℕ, ◌+◌, ◌-◌, ◌*◌, ◌≤◌, ◌<◌}
 use mathlib.Core.Path.{◌≡◌, refl, sym, ap, ◌∙◌}
 use mathlib.Core.List.{List, ◌++◌}
@@ -31,7 +31,7 @@ use Rattle.trace.specs.Trace.{Met}
 use Rattle.group.proofs.Indices.{take-tabulate}
 use Rattle.layout.proofs.Columns.{tabulate_rest}
 
--- Behind the first group the lists hold the best layouts of the rest.
+-- Behind the first group the plan holds the best layouts of the rest.
 planned_drop : (kind : Kind) (limit g0 : ℕ) (cs : List Component) (widths heights ends : List ℕ) (k : ℕ) → 0 < k → k ≤ length cs → Planned kind limit g0 cs widths heights ends
     → Planned kind limit (gap_after (take k cs)) (drop k cs) (drop k widths) (drop k heights) (drop k ends)
 planned_drop kind limit g0 cs widths heights ends k p h s = record {
@@ -40,7 +40,7 @@ planned_drop kind limit g0 cs widths heights ends k p h s = record {
       rw (← layouts-drop (λ x. gap x) (candidate_for (groups kind) limit) g0 cs k p h, get_or-drop k (layouts kind limit g0 cs) j unmet, get_or-drop k widths j 0, get_or-drop k heights j 0, get_or-drop k ends j 0) q;
 }
 
--- The first group of a layout that the lists hold.
+-- The first group of a layout that the plan holds.
 module _ (kind : Kind) (limit g0 : ℕ) (cs : List Component) (widths heights ends : List ℕ) (some : 0 < length cs) (few : length cs ≤ 256) (s : AllSized cs)
     (m : Met kind limit g0 cs widths heights ends) where
   first : FirstGroup (groups kind) limit g0 cs (layout_of kind limit g0 cs)

@@ -2,11 +2,13 @@
 use Prim.Native.Nat.{ℕ, ◌+◌, ◌-◌, ◌*◌, ◌≤◌, ◌<◌}
 use mathlib.Core.Path.{◌≡◌, refl, sym, ap, ◌∙◌}
 use mathlib.Core.List.{List, [], ◌∷◌, ◌++◌}
-use mathlib.Core.Bool.{true}
+use mathlib.Core.Bool.{Bool, true, false}
 use native.Mathlib.Omega.{arith}
+use lib.Dec.{eqb}
 use lib.ListN.{length, get_or, take, drop, length-drop, length-append}
 use lib.Seq.{length-take-le, take_all, drop-drop, drop-append-add, take_at, drop-append_seam}
 use borrow.Rule.Slice.PartMut.{put_mid}
+use Rattle.std.proofs.lemmas.Bool.{eqb-true, eqb-false}
 use Rattle.std.proofs.lemmas.List.{take-map, drop-map}
 use Rattle.terms.specs.declared.Kind.{Kind}
 use Rattle.terms.specs.declared.Piece.{Piece}
@@ -42,6 +44,13 @@ part k l = take (length l - k) (drop k l)
 
 pub part_is : {A : Type 0} (k : ℕ) (l : List A) → part k l ≡ drop k l
 part_is k l = take_all (length l - k) (drop k l) (omega (arith, length-drop k l))
+
+-- Whether anything is left.
+pub empty : (s : List Piece) {b : Bool} → b ≡ eqb (length s) 0 → b ≡ true → length s ≤ 0
+empty s e t = omega (arith, eqb-true _ _ (sym e ∙ t))
+
+pub not_empty : (s : List Piece) {b : Bool} → b ≡ eqb (length s) 0 → b ≡ false → 0 < length s
+not_empty s e f = omega (arith, eqb-false _ _ (sym e ∙ f))
 
 module _ {kind : Kind} {group g0 : ℕ} (s : List Piece) (plan : List Entry) {out work : List ℕ}
     (a : columns s (TraceAsks kind group g0) (plan_widths plan) (plan_ends plan) out work) (more : 0 < length s) where

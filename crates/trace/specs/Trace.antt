@@ -32,7 +32,7 @@ pub record GroupPut (kind : Kind) (group g0 cap : ℕ) (hs ws gs old new : List 
   pub point : FoldPoint kind g0 (components_in hs ws gs) cap at
   pub holds : new ≡ flat_of (group_places cap (bare hs ws) group at) ++ drop (3 * length hs) old
 
--- The lists hold the best layouts for the limit, and that of the whole keeps it.
+-- The columns of a plan hold the best layouts for the limit, and that of the whole keeps it.
 pub record Met (kind : Kind) (limit g0 : ℕ) (cs : List Component) (widths heights ends : List ℕ) : Type 0 where
   pub planned : Planned kind limit g0 cs widths heights ends
   pub met : (layout_of kind limit g0 cs).width < none

@@ -1,28 +1,29 @@
+use Prim.Native.Nat.{◌<◌}
+use mathlib.Core.Path.{refl, ◌∙◌}
 use native.Mathlib.Omega.{arith}
-use Rattle.plan.proofs.Outlines.{outline_met}
-use Rattle.fold.proofs.Held.{stacked_asks}
+use Rattle.std.proofs.Common.{rules}
+use Rattle.best.proofs.Planning.{met}
 use Rattle.fold_area.proofs.Passing.{flat_leads, own_asks, own_limit, smaller_leads}
 use Rattle.fold_area.proofs.first_lead.Goals as goal
 
-pub next_limit-limit-requires : goal.next_limit-limit-requires
-next_limit-limit-requires c =
-    let s = stacked_asks c.requires.plan_asks in own_asks _ _ s _ (flat_leads c.args.kind _ s _ c.requires.unfolded)
+pub next_limit-requires : goal.next_limit-requires
+next_limit-requires c = own_asks c.args.search.now.kind _ c.requires.stacked _ (flat_leads c.args.search.now.kind _ c.requires.stacked _ c.requires.unfolded)
 
-pub loop-limit-init : goal.loop-limit-init
-loop-limit-init c =
-    let s = stacked_asks c.requires.plan_asks in
-    let l = flat_leads c.args.kind _ s _ c.requires.unfolded in
+pub loop-flat-init : goal.loop-flat-init
+loop-flat-init c =
+    let l = flat_leads c.args.search.now.kind _ c.requires.stacked _ c.requires.unfolded in
     record {
+      same = refl;
       lead = l;
-      known = λ h. absurd (omega arith);
-      low = omega (arith, c.next_limit-limit.ensures, own_limit _ _ s _ l c.args.flat.cells);
+      low = omega (arith, c.next_limit.ensures, own_limit _ _ c.requires.stacked _ l c.args.flat.cells);
     }
 
-pub loop-limit-preserved : goal.loop-limit-preserved
-loop-limit-preserved c =
+pub loop-flat-preserved : goal.loop-flat-preserved
+loop-flat-preserved c =
+    let i = c.loop-flat.invariant in
+    let low : c.args.flat.tallest.0 < c.loop-flat.limit.0 = search rules in
     record {
-      lead = rw c.smaller-lead.ensures (smaller_leads _ _ (stacked_asks c.requires.plan_asks) _ c.loop-limit.invariant.lead _
-          (omega arith) _ (outline_met c.replan.ensures.plan_done c.in-Some.is));
-      known = λ h. (c.replan.ensures.plan_done.planned, c.replan.ensures.memory);
-      low = omega arith;
+      same = c.outline.ensures.same ∙ i.same;
+      lead = rw c.smaller-lead.ensures (smaller_leads _ _ c.requires.stacked _ i.lead _ (omega (arith, low)) _ (met _ _ _ i.same c.outline.ensures.outlined c.in-Some.is));
+      low = omega (arith, low);
     }

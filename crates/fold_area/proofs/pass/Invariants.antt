@@ -1,15 +1,13 @@
-use Rattle.terms.specs.Pieces.{columns, stack_in}
-use Rattle.layout.specs.Plan.{lists}
-use Rattle.plan.specs.Memory.{Known}
+use mathlib.Core.Path.{◌≡◌}
 use Rattle.fold_area.specs.Inner.{Passing}
 use Rattle.fold_area.proofs.pass.Given as goal
 
-abbrev pub invariant-loop-limit : goal.invariant-loop-limit
-invariant-loop-limit l =
+abbrev pub invariant-loop-flat : goal.invariant-loop-flat
+invariant-loop-flat l =
     record {
-      passing : Passing l.kind (stack_in l.stack) l.lead l.limit.0;
-      known : lists l.plan (columns l.stack (Known l.kind l.known.0 0)) l.work;
+      same : l.search ≡ l.initial.search;
+      passing : Passing l.initial.search.kind l.initial.search.components l.lead l.limit.0;
     }
 
-abbrev pub decreases-loop-limit : goal.decreases-loop-limit
-decreases-loop-limit l = l.limit.0
+abbrev pub decreases-loop-flat : goal.decreases-loop-flat
+decreases-loop-flat l = l.limit.0

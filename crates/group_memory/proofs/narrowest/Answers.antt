@@ -1,12 +1,10 @@
+use Rattle.std.proofs.Common.{rules}
 use Rattle.group_memory.proofs.Memory.{recalled, too_narrow}
-use native.Mathlib.Omega.{arith}
 use Rattle.group_memory.proofs.narrowest.Goals as goal
 
-pub returns-then-known-min-clause-narrow : goal.returns-then-known-min-clause-narrow
-returns-then-known-min-clause-narrow c =
-    recalled c.requires c.known_in-known.ensures.width_value c.known_in-known.ensures.height_value
-    (omega (arith, c.if-known-min.true, c.min.ensures)) c.recall.ensures
+pub returns-in-Ok-clause-narrow : goal.returns-in-Ok-clause-narrow
+returns-in-Ok-clause-narrow c =
+    rw c.then_some.ensures (recalled c.requires (rw c.in-Ok.is at c.recall.ensures) _ (λ t. search rules) (λ t. search rules))
 
-pub returns-then-cap-low-clause-narrow : goal.returns-then-cap-low-clause-narrow
-returns-then-cap-low-clause-narrow c =
-    too_narrow c.requires c.known_in-known.ensures.width_value c.max.ensures _ (omega (arith, c.if-cap-low.true))
+pub returns-then-too_narrow-clause-narrow : goal.returns-then-too_narrow-clause-narrow
+returns-then-too_narrow-clause-narrow c = too_narrow c.requires (rw c.in-Err.is at c.recall.ensures) {low = c.max-low.result.0} (search rules) (search rules)

@@ -2,7 +2,7 @@ use mathlib.Core.Path.{◌≡◌}
 use lib.ListN.{length}
 use Rattle.terms.specs.Pieces.{heights_in}
 use Rattle.terms.proofs.Pieces.{heights_length}
-use Rattle.group_search.proofs.Walks.{move_on}
+use Rattle.group_search.proofs.Turns.{move_on}
 use native.Mathlib.Omega.{arith}
 use Rattle.group_search.proofs.over_row.Goals as goal
 

@@ -1,6 +1,6 @@
 use mathlib.Core.Path.{◌≡◌}
 use Rattle.terms.proofs.Pieces.{heights_length}
-use Rattle.group_search.proofs.Walks.{move_on, move_row}
+use Rattle.group_search.proofs.Turns.{move_on, move_row}
 use native.Mathlib.Omega.{arith}
 use Rattle.group_search.proofs.over_rows.Goals as goal
 

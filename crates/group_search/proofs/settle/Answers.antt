@@ -1,5 +1,5 @@
 use Rattle.terms.proofs.Pieces.{heights_length}
-use Rattle.group_search.proofs.Walks.{settle_top, settle_side, settle_clash}
+use Rattle.group_search.proofs.Turns.{settle_top, settle_side, settle_clash}
 use native.Mathlib.Omega.{arith}
 use Rattle.group_search.proofs.settle.Goals as goal
 

@@ -1,25 +1,22 @@
-use Rattle.group_table.proofs.Walking.{ending, walk_ends, to_left, to_right}
+use Rattle.group_table.proofs.Walks.{walk_start, to_left, to_right}
 use native.Mathlib.Omega.{arith}
 use Rattle.group_table.proofs.walk.Goals as goal
 
-pub loop-cap-preserved-then-left-right : goal.loop-cap-preserved-then-left-right
-loop-cap-preserved-then-left-right c =
-    to_left c.requires c.loop-cap.invariant (c.beside.ensures.left_there c.loop-cap-test.true)
-    (omega (arith, c.beside.ensures.right_there c.loop-cap-test.true, c.requires.asks.columns.same))
-    (c.beside.ensures.fits c.loop-cap-test.true) _ (omega (arith, c.height.ensures.value))
-    (omega (arith, c.if-left-right.true, c.height-in-loop-cap.ensures.value))
+pub ends-init : goal.ends-init
+ends-init c = walk_start _ _ c.requires
 
-pub loop-cap-preserved : goal.loop-cap-preserved
-loop-cap-preserved c =
-    to_right c.requires c.loop-cap.invariant (c.beside.ensures.left_there c.loop-cap-test.true)
-    (omega (arith, c.beside.ensures.right_there c.loop-cap-test.true, c.requires.asks.columns.same))
-    (c.beside.ensures.fits c.loop-cap-test.true) _ (omega (arith, c.height-in-loop-cap.ensures.value))
-    (omega (arith, c.if-left-right.false, c.height.ensures.value))
+pub ends-preserved-then-left-right : goal.ends-preserved-then-left-right
+ends-preserved-then-left-right c =
+    to_left c.requires c.ends.invariant (c.beside.ensures.left_there c.ends-test.true)
+    (omega (arith, c.beside.ensures.right_there c.ends-test.true, c.requires.columns.same))
+    (c.beside.ensures.fits c.ends-test.true) _
+    (omega (arith, c.max-fit.ensures, c.width.ensures.value, c.width-in-ends.ensures.value)) _
+    (omega (arith, c.height.ensures.value)) (omega (arith, c.if-left-right.true, c.height-in-ends.ensures.value))
 
-pub ending-requires : goal.ending-requires
-ending-requires c = ending c.requires c.loop-cap.invariant
-
-pub returns : goal.returns
-returns c =
-    walk_ends c.requires c.loop-cap.invariant _ c.ending.ensures
-    (λ z y. c.beside.ensures.clash c.loop-cap-test.false z (omega (arith, c.requires.asks.columns.same)))
+pub ends-preserved : goal.ends-preserved
+ends-preserved c =
+    to_right c.requires c.ends.invariant (c.beside.ensures.left_there c.ends-test.true)
+    (omega (arith, c.beside.ensures.right_there c.ends-test.true, c.requires.columns.same))
+    (c.beside.ensures.fits c.ends-test.true) _
+    (omega (arith, c.max-fit.ensures, c.width.ensures.value, c.width-in-ends.ensures.value)) _
+    (omega (arith, c.height-in-ends.ensures.value)) (omega (arith, c.if-left-right.false, c.height.ensures.value))

@@ -1,11 +1,8 @@
-use Prim.Native.Nat.{◌-◌}
-use lib.ListN.{length}
+use Rattle.std.proofs.Common.{◌≡◌, ◌+◌}
 use Rattle.terms.specs.Pieces.{sizes}
 use Rattle.group_trace.proofs.Writing.{Writing}
 use Rattle.group_trace.proofs.write_group.Given as goal
 
-abbrev pub invariant-loop-right : goal.invariant-loop-right
-invariant-loop-right l = sizes l.stack Writing l.initial.out l.group l.p l.cap.0 l.out l.left l.right l.a l.b
-
-abbrev pub decreases-loop-right : goal.decreases-loop-right
-decreases-loop-right l = length l.stack - (l.right - l.left)
+abbrev pub invariant-loop-turn : goal.invariant-loop-turn
+invariant-loop-turn l = sizes l.stack Writing l.initial.out l.group l.left l.table.cap.0 l.out l.at
+    × (l.at.left + l._turn ≡ l.at.right)

@@ -1,33 +1,33 @@
 use Rattle.std.proofs.Common.{Some, refl, sym, ap, ◌∙◌}
 use lib.Seq.{length-take-le}
-use Rattle.stack.proofs.Reading.{read_held, read_refused}
+use Rattle.stack.proofs.Reading.{held, not_held}
 use Rattle.measure.proofs.Measuring.{stack_held}
 use Rattle.measure.proofs.Choosing.{chose_refused, chose, first_long, second_long}
 use Rattle.measure.proofs.choose.Goals as goal
 
 pub returns-in_default : goal.returns-in_default
 returns-in_default c = chose_refused c.args.kind c.args.file.now c.args.first.now c.args.second.now _
-    (read_refused _ _ _ refl c.in_default.ensures _ refl)
+    (not_held _ _ _ c.in_default.ensures)
 
 pub better_of-requires : goal.better_of-requires
-better_of-requires c = stack_held (read_held _ _ _ refl c.in-Ok.ensures _ refl)
+better_of-requires c = stack_held (held _ _ c.pieces-pieces.ensures c.in-Ok.ensures)
 
 pub slice_bounds-result-end-in-Some-First : goal.slice_bounds-result-end-in-Some-First
-slice_bounds-result-end-in-Some-First c = sym (length-take-le _ _ (first_long (read_held _ _ _ refl c.in-Ok.ensures _ refl)
+slice_bounds-result-end-in-Some-First c = sym (length-take-le _ _ (first_long (held _ _ c.pieces-pieces.ensures c.in-Ok.ensures)
     c.args.first.now c.args.second.now c.better_of.ensures (c.in-Some-First.is ∙ ap Some c.in-Some-First.field-0-is) refl))
 
 pub slice_bounds-result-end-in-Some-Second : goal.slice_bounds-result-end-in-Some-Second
-slice_bounds-result-end-in-Some-Second c = sym (length-take-le _ _ (second_long (read_held _ _ _ refl c.in-Ok.ensures _ refl)
+slice_bounds-result-end-in-Some-Second c = sym (length-take-le _ _ (second_long (held _ _ c.pieces-pieces.ensures c.in-Ok.ensures)
     c.args.first.now c.args.second.now c.better_of.ensures (c.in-Some-Second.is ∙ ap Some c.in-Some-Second.field-0-is) refl))
 
 pub returns-in-Some-First : goal.returns-in-Some-First
-returns-in-Some-First c = chose (read_held _ _ _ refl c.in-Ok.ensures _ refl) c.args.first.now c.args.second.now
+returns-in-Some-First c = chose (held _ _ c.pieces-pieces.ensures c.in-Ok.ensures) c.args.first.now c.args.second.now
     c.better_of.ensures (c.in-Some-First.is ∙ ap Some c.in-Some-First.field-0-is)
 
 pub returns-in-Some-Second : goal.returns-in-Some-Second
-returns-in-Some-Second c = chose (read_held _ _ _ refl c.in-Ok.ensures _ refl) c.args.first.now c.args.second.now
+returns-in-Some-Second c = chose (held _ _ c.pieces-pieces.ensures c.in-Ok.ensures) c.args.first.now c.args.second.now
     c.better_of.ensures (c.in-Some-Second.is ∙ ap Some c.in-Some-Second.field-0-is)
 
 pub returns-in-None : goal.returns-in-None
-returns-in-None c = chose (read_held _ _ _ refl c.in-Ok.ensures _ refl) c.args.first.now c.args.second.now
+returns-in-None c = chose (held _ _ c.pieces-pieces.ensures c.in-Ok.ensures) c.args.first.now c.args.second.now
     c.better_of.ensures c.in-None.is

@@ -1,28 +1,34 @@
-use Rattle.std.proofs.Common.{arith}
+use mathlib.Core.Path.{sym, ◌∙◌}
+use Prim.Native.Nat.{◌≤◌}
+use native.Mathlib.Omega.{arith}
+use lib.ListN.{length, take}
+use lib.Seq.{length-take-le}
+use Rattle.std.proofs.lemmas.List.{length-map}
+use Rattle.terms.specs.Pieces.{heights_in, widths_in, seams_in}
 use Rattle.terms.proofs.Pieces.{heights_length}
+use Rattle.folding.specs.Placement.{placement_of}
+use Rattle.folding.proofs.InLists.{placed_front}
 use Rattle.folding.proofs.StartRows.{all_at_start}
-use Rattle.outline.proofs.Walk.{map_part, walk_start, group_in, walk_on, walk_done}
 use Rattle.outline.proofs.outline_of.Goals as goal
 
-pub loop-from-init : goal.loop-from-init
-loop-from-init c = walk_start c.requires
-
-pub group_outline-group-requires : goal.group_outline-group-requires
-group_outline-group-requires c = (
-  simp map_part
-      (group_in c.requires c.loop-from.invariant (rw (← heights_length c.args.stack.now) at c.group_end-to.ensures)),
-  c.loop-from.invariant.small,
-)
-
-pub loop-from-preserved : goal.loop-from-preserved
-loop-from-preserved c =
-    let o = simp map_part at c.group_outline-group.ensures in
-    walk_on c.requires c.loop-from.invariant (rw (← heights_length c.args.stack.now) at c.group_end-to.ensures) o.width_is
-    o.height_is o.slim c.max-height.ensures c.gap-before.ensures.value (omega (arith, c.gap-before.ensures.upper_bound))
+pub of_each-requires : goal.of_each-requires
+of_each-requires c =
+    let s = c.args.stack.now in
+    let rows = c.args.placements.now in
+    let r = c.requires in
+    let h = heights_length s in
+    let l : length s ≤ length rows = omega (arith, r.placed, length-map rows placement_of, h) in
+    record {
+      stack = r.stack;
+      one_each = length-map (take (length s) rows) placement_of ∙ length-take-le (length s) rows l ∙ sym h;
+      is_legal = (r.is_legal.0, rw (placed_front (heights_in s) (widths_in s) (seams_in s) rows (length s) (omega (arith, h))) r.is_legal.1);
+    }
 
 pub returns-clause-value : goal.returns-clause-value
 returns-clause-value c =
-    let d = walk_done c.requires c.loop-from.invariant (omega (arith, heights_length c.args.stack.now)) in rw (← d.0, ← d.1)
+    let s = c.args.stack.now in
+    let h = heights_length s in
+    rw (placed_front (heights_in s) (widths_in s) (seams_in s) c.args.placements.now (length s) (omega (arith, h))) at c.of_each.ensures
 
 pub returns-clause-all_at_start : goal.returns-clause-all_at_start
 returns-clause-all_at_start c = all_at_start _

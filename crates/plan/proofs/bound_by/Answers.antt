@@ -1,30 +1,41 @@
-use mathlib.Core.Path.{sym, ◌∙◌}
-use Rattle.terms.specs.declared.Kind.TheVariants.{Nested}
-use Rattle.plan.proofs.Remembering.{row_start, row_word, row_more}
+use mathlib.Core.Path.{refl, sym, ◌∙◌}
+use Rattle.plan.proofs.Columns.{stack_lists_take}
+use Rattle.plan.proofs.Remembering.{row_word, row_more}
 use Rattle.plan.proofs.Scanning.{bound_asks, bound_under}
-use Rattle.plan.proofs.Trying.{first_free}
+use Rattle.plan.proofs.Trying.{first_ends}
 use native.Mathlib.Omega.{arith}
 use Rattle.plan.proofs.bound_by.Goals as goal
 
-pub try_folds-b-requires-clause-group_asks : goal.try_folds-b-requires-clause-group_asks
-try_folds-b-requires-clause-group_asks c =
+pub sizes_of-sizes-requires : goal.sizes_of-sizes-requires
+sizes_of-sizes-requires c =
+    let l = stack_lists_take c.args.stack.now _ (omega (arith, c.if-stack-last.false)) c.requires.first_asks.lists in
+    record { few = omega (arith, l.few); low = l.low }
+
+pub try_folds-requires-clause-group_asks : goal.try_folds-requires-clause-group_asks
+try_folds-requires-clause-group_asks c =
     bound_asks c.args.stack.now c.args.later.now c.requires.first_asks c.args.last (omega (arith, c.if-stack-last.false)) c.sizes_of-sizes.ensures
 
-pub try_folds-b-requires-clause-word_asks : goal.try_folds-b-requires-clause-word_asks
-try_folds-b-requires-clause-word_asks c =
-    row_word _ _ _ c.args.stack.now c.args.last (omega (arith, c.if-stack-last.false)) Nested c.args.work.now _
-    (row_start _ _ _ _ _ _ Nested _ c.requires.row_asks)
+pub try_folds-requires-clause-word_asks : goal.try_folds-requires-clause-word_asks
+try_folds-requires-clause-word_asks c =
+    row_word c.args.stack.now c.args.last (omega (arith, c.if-stack-last.false)) _ _ c.requires.row_asks
 
-pub try_folds-b-requires-clause-free : goal.try_folds-b-requires-clause-free
-try_folds-b-requires-clause-free c =
-    first_free c.args.stack.now c.args.last (omega (arith, c.if-stack-last.false)) (sym c.barred.ensures ∙ c.if-barred.false)
+pub try_folds-requires-clause-free : goal.try_folds-requires-clause-free
+try_folds-requires-clause-free c =
+    first_ends c.args.stack.now c.args.last (omega (arith, c.if-stack-last.false)) (sym c.barred.ensures ∙ c.if-barred.false)
+
+pub returns-in_err-b-clause-row_done : goal.returns-in_err-b-clause-row_done
+returns-in_err-b-clause-row_done c =
+    row_more c.args.stack.now c.args.last (omega (arith, c.if-stack-last.false)) _ c.requires.row_asks.1 c.try_folds.ensures.word_holds
+
+pub returns-in_err-o-clause-row_done : goal.returns-in_err-o-clause-row_done
+returns-in_err-o-clause-row_done c =
+    row_more c.args.stack.now c.args.last (omega (arith, c.if-stack-last.false)) _ c.requires.row_asks.1 c.try_folds.ensures.word_holds
 
 pub returns-clause-under : goal.returns-clause-under
 returns-clause-under c =
-    bound_under c.args.stack.now c.args.later.now c.requires.first_asks c.args.last (omega (arith, c.if-stack-last.false)) c.try_folds-b.result
-    c.try_folds-b.ensures.result_value _ c.min.ensures
+    bound_under c.args.stack.now c.args.later.now c.requires.first_asks c.args.last (omega (arith, c.if-stack-last.false)) c.in_ok-b.b
+    (rw c.in_ok-b.was at c.try_folds.ensures.result_value) {o = c.in_ok-o.o} (sym c.outline.ensures ∙ c.in_ok-o.was) _ refl
 
 pub returns-clause-row_done : goal.returns-clause-row_done
 returns-clause-row_done c =
-    row_more _ _ _ c.args.stack.now c.args.last (omega (arith, c.if-stack-last.false)) Nested _ _ _ c.try_folds-b.auto.work
-    (row_start _ _ _ _ _ _ Nested _ c.requires.row_asks) c.try_folds-b.ensures.word_done
+    row_more c.args.stack.now c.args.last (omega (arith, c.if-stack-last.false)) _ c.requires.row_asks.1 c.try_folds.ensures.word_holds

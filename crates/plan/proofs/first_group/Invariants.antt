@@ -6,5 +6,5 @@ use Rattle.plan.proofs.first_group.Given as goal
 abbrev pub invariant-loop-i : goal.invariant-loop-i
 invariant-loop-i l = record {
   scanned : Scanned l.ask.kind l.ask.limit.0 l.ask.before.0 l.initial.best.width.0 l.stack l.best l.sizes l.i;
-  row_done : columns l.stack (RowDone l.ask.kind l.ask.limit.0 l.ask.before.0) l.initial.work l.work l.row;
+  row_done : columns l.stack (RowDone l.ask.kind l.ask.limit.0 l.ask.before.0) l.row;
 }

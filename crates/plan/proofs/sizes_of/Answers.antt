@@ -1,10 +1,13 @@
-use Rattle.plan.proofs.Sizing.{sizes_start, sizes_more}
+use Rattle.plan.proofs.Sizing.{sizes_start, sizes_more, sizes_all}
 use native.Mathlib.Omega.{arith}
 use Rattle.plan.proofs.sizes_of.Goals as goal
 
-pub loop-i-init : goal.loop-i-init
-loop-i-init c = sizes_start _ _
+pub loop-p-init : goal.loop-p-init
+loop-p-init c = sizes_start _
 
-pub loop-i-preserved : goal.loop-i-preserved
-loop-i-preserved c =
-    sizes_more c.requires.low (omega (arith, c.requires.in_heights)) c.loop-i.invariant c.plus-sizes.ensures.tall c.plus-sizes.ensures.widest
+pub loop-p-preserved : goal.loop-p-preserved
+loop-p-preserved c =
+    sizes_more _ c.requires.low c.loop-p-test.true c.loop-p.invariant c.plus-sizes.ensures.tall c.plus-sizes.ensures.widest
+
+pub returns : goal.returns
+returns c = sizes_all _ c.requires.few (omega arith) c.loop-p.invariant

@@ -1,6 +1,5 @@
-use Rattle.terms.specs.Pieces.{sizes}
 use Rattle.plan.proofs.Sizing.{SizesTo}
 use Rattle.plan.proofs.sizes_of.Given as goal
 
-abbrev pub invariant-loop-i : goal.invariant-loop-i
-invariant-loop-i l = sizes l.stack SizesTo l.sizes l.i
+abbrev pub invariant-loop-p : goal.invariant-loop-p
+invariant-loop-p l = SizesTo l.stack l.sizes l.p-index

@@ -1,6 +1,6 @@
 use mathlib.Core.Path.{sym}
 use Rattle.terms.proofs.Pieces.{heights_length}
-use Rattle.plan.proofs.Trying.{last_gap, wide_4000, wide_some, best_low, narrow_asks, folds_wide, folds_none, folds_tried}
+use Rattle.plan.proofs.Trying.{flat_is, wide_4000, wide_some, best_low, narrow_asks, folds_wide, folds_none, folds_tried}
 use native.Mathlib.Omega.{arith}
 use Rattle.plan.proofs.try_folds.Goals as goal
 
@@ -11,23 +11,24 @@ pub returns-then-bound-rest-clause-result_value : goal.returns-then-bound-rest-c
 returns-then-bound-rest-clause-result_value c =
     folds_wide c.requires.group_asks _ c.too_wide-bound.ensures.width_le_result c.if-bound-rest.true
 
-pub narrowest-n-requires : goal.narrowest-n-requires
-narrowest-n-requires c =
-    narrow_asks c.requires.group_asks _ _ c.requires.word_asks _ _ (last_gap c.args.stack.now c.gap.ensures.value)
+pub narrowest-requires : goal.narrowest-requires
+narrowest-requires c =
+    narrow_asks c.requires.group_asks c.requires.word_asks _ _ (flat_is c.requires.group_asks (sym (heights_length c.args.stack.now)) c.flat_height.ensures)
     c.requires.free (omega (arith, c.min.ensures, c.if-bound-rest.false)) (omega (arith, c.min.ensures))
-
-pub returns-then-n-ge-NONE-clause-result_value : goal.returns-then-n-ge-NONE-clause-result_value
-returns-then-n-ge-NONE-clause-result_value c =
-    folds_none c.requires.group_asks _ c.too_wide-bound.ensures.width_le_result _ _ _ c.min.ensures
-    c.narrowest-n.ensures.narrow c.if-n-ge-NONE.true
 
 pub returns-clause-result_value : goal.returns-clause-result_value
 returns-clause-result_value c =
-    folds_tried c.requires.group_asks _ c.too_wide-bound.ensures.width_le_result _ _ _ c.min.ensures
-    c.narrowest-n.ensures.narrow _ _ _ (omega (
+    folds_tried c.requires.group_asks _ c.too_wide-bound.ensures.width_le_result _ c.min.ensures
+    c.narrowest.ensures.narrow (c.in_ok-group.was) _ _ (omega (
       arith,
       c.if-bound-rest.false,
       c.too_wide-bound.ensures.result_bound,
       best_low c.requires.group_asks,
       wide_some c.requires.group_asks,
-    )) c.if-n-ge-NONE.false c.max.ensures (sym (heights_length c.args.stack.now)) c.pick.ensures
+    )) (sym (heights_length c.args.stack.now)) c.improved.ensures
+
+pub returns-in_err-group-clause-result_value : goal.returns-in_err-group-clause-result_value
+returns-in_err-group-clause-result_value c =
+    rw c.from_residual.ensures
+    (folds_none c.requires.group_asks _ c.too_wide-bound.ensures.width_le_result _ c.min.ensures
+    c.narrowest.ensures.narrow c.in_err-group.was)

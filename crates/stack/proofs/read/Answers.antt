@@ -1,21 +1,19 @@
 use Rattle.std.proofs.Common.{arith, sym}
-use Rattle.std.proofs.lemmas.Result.{err_from_is_err_and}
+use Rattle.terms.proofs.Answers.{handed_on}
 use Rattle.terms.specs.declared.Kind.TheVariants.{Apart}
 use Rattle.stack.proofs.Reading.{fillable, all_by_check, all_short, all_read}
 use Rattle.stack.proofs.read.Goals as goal
 
-pub returns-in_err-n : goal.returns-in_err-n
-returns-in_err-n c =
-    let p = err_from_is_err_and c.from_residual.result c.from_residual.ensures.1 in
-    rw (p.1, p.2) (all_by_check _ _ _ _ _ _ (sym c.in_err-n.ensures))
+pub returns-in_err-checked : goal.returns-in_err-checked
+returns-in_err-checked c =
+    rw (handed_on _ _ c.from_residual.ensures.1) (all_by_check _ _ _ _ _ _ (sym c.in_err-checked.ensures.count))
 
 pub returns-then-room-n : goal.returns-then-room-n
-returns-then-room-n c = all_short _ _ _ _ _ (sym c.in_ok-n.ensures) (omega arith)
+returns-then-room-n c = all_short _ _ _ _ _ (sym c.in_ok-checked.ensures.count) (omega arith)
 
 pub fill-requires : goal.fill-requires
 fill-requires c =
-    let f = fillable Apart _ (sym c.in_ok-n.ensures) in
-    record { heights_widths = (f _ (omega arith), f _ (omega arith)); gaps_marks = (f _ (omega arith), f _ (omega arith)) }
+    rw c.in_ok-checked.ensures.same_file (fillable Apart _ (sym c.in_ok-checked.ensures.count) _ (omega arith))
 
 pub returns : goal.returns
-returns c = all_read _ _ _ _ _ (sym c.in_ok-n.ensures) (omega arith) c.fill.ensures
+returns c = all_read _ _ _ _ _ (sym c.in_ok-checked.ensures.count) (omega arith) (rw c.in_ok-checked.ensures.same_file at c.fill.ensures)

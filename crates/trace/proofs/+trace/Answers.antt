@@ -1,51 +1,53 @@
 use native.Mathlib.Omega.{arith}
 use Rattle.std.proofs.Common.{ap, length, length-drop}
 use Rattle.std.proofs.lemmas.List.{take-map}
-use Rattle.trace.proofs.Tracing.{part_is, first_asks, cap_asks, put_asks, again, done, nothing}
+use Rattle.trace.proofs.Tracing.{empty, not_empty, part_is, first_asks, cap_asks, put_asks, again, done, nothing}
 use Rattle.trace.proofs.+trace.Goals as goal
 
-pub first_end-k-requires : goal.first_end-k-requires
-first_end-k-requires t c = first_asks c.args.stack.now c.args.plan.now c.requires c.if-stack-gt0.true
+pub first_group-first-requires : goal.first_group-first-requires
+first_group-first-requires t c = first_asks c.args.stack.now c.args.plan.now c.requires (not_empty _ c.is_empty.ensures c.if-is_empty.false)
 
 pub cap_of-requires : goal.cap_of-requires
-cap_of-requires t c = cap_asks c.args.stack.now c.args.plan.now c.requires c.if-stack-gt0.true c.first_end-k.ensures.0
+cap_of-requires t c = cap_asks c.args.stack.now c.args.plan.now c.requires (not_empty _ c.is_empty.ensures c.if-is_empty.false) c.first_group-first.ensures.count.0
 
 pub put_group-requires : goal.put_group-requires
-put_group-requires t c = put_asks c.args.stack.now c.args.plan.now c.requires c.if-stack-gt0.true c.first_end-k.ensures.0
+put_group-requires t c = let f = c.first_group-first.ensures in
+    rw f.value (rw f.count.0 at (put_asks c.args.stack.now c.args.plan.now c.requires (not_empty _ c.is_empty.ensures c.if-is_empty.false) f.count.0))
 
 pub trace-requires : goal.trace-requires
 trace-requires t c = (
   omega (
     arith,
-    ap length (part_is c.first_end-k.result c.args.stack.now),
-    length-drop c.first_end-k.result c.args.stack.now,
-    c.first_end-k.ensures.1,
-    c.first_end-k.ensures.2,
+    ap length (part_is (length c.first_group-first.result.now) c.args.stack.now),
+    length-drop (length c.first_group-first.result.now) c.args.stack.now,
+    c.first_group-first.ensures.count.0,
+    c.first_group-first.ensures.count.1,
+    c.first_group-first.ensures.count.2,
     c.decreases,
   ),
   again
       c.args.stack.now c.args.plan.now
       c.requires
-      c.if-stack-gt0.true
-      c.first_end-k.ensures.0
+      (not_empty _ c.is_empty.ensures c.if-is_empty.false)
+      c.first_group-first.ensures.count.0
       c.cap_of.ensures
-      c.last_gap.ensures
+      c.gap.ensures.value
       _ _
       c.put_group.auto.out
       c.put_group.auto.work,
 )
 
-pub returns-then-stack-gt0 : goal.returns-then-stack-gt0
-returns-then-stack-gt0 t c =
+pub returns : goal.returns
+returns t c =
     done
     c.args.stack.now c.args.plan.now
     c.requires
-    c.if-stack-gt0.true
-    c.first_end-k.ensures.0
+    (not_empty _ c.is_empty.ensures c.if-is_empty.false)
+    c.first_group-first.ensures.count.0
     c.cap_of.ensures
-    c.last_gap.ensures
-    (simp take-map c.put_group.ensures)
+    c.gap.ensures.value
+    (simp take-map (rw (c.first_group-first.ensures.value, ← c.first_group-first.ensures.count.0) at c.put_group.ensures))
     c.trace.ensures
 
-pub returns-else-stack-gt0 : goal.returns-else-stack-gt0
-returns-else-stack-gt0 t c = nothing c.args.stack.now c.if-stack-gt0.false
+pub returns-then-is_empty : goal.returns-then-is_empty
+returns-then-is_empty t c = nothing c.args.stack.now (empty _ c.is_empty.ensures c.if-is_empty.true)
