@@ -1,6 +1,6 @@
 -- What a fold call promises fixes its answer: a known best folding, or that there is none, leaves it no choice.
 use Prim.Native.Nat.{ℕ, ◌/◌, ◌≤◌, ◌<◌}
-use mathlib.Core.Path.{◌≡◌, sym, ap}
+use mathlib.Core.Path.{◌≡◌, refl, sym, ap}
 use mathlib.Core.Logic.{◌⊎◌, inl, inr}
 use mathlib.Core.List.{List}
 use native.Mathlib.Omega.{arith}
@@ -84,6 +84,11 @@ module _ (kind : Kind) (cs : List Component) (limit : ℕ) (ps : List Placement)
 module _ (wanted : Wanted) (out work out' work' : List ℕ) (answer : Answer Outline) where
   pub refused_call : (k : ℕ) (valid : Answer (List Component)) → valid ≡ refusal k → Answered wanted out work out' work' answer valid → (answer ≡ refusal k) × (out' ≡ out) × (work' ≡ work)
   refused_call k valid e a = rw e at a
+
+-- Such an answer is what a call promises then.
+module _ (wanted : Wanted) (out work : List ℕ) where
+  pub refused : (k : ℕ) (a : Answer (List Component)) → a ≡ refusal k → Answered wanted out work out work (refusal k) a
+  refused k a e = rw e (refl, refl, refl)
 
 -- A folding that a call writes measures to the outline that it gives.
 module _ (kind : Kind) (file : List ℕ) (limit : ℕ) (out work : List ℕ) (cs : List Component) (v : valid_of kind file limit out work ≡ result cs) where

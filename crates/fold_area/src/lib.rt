@@ -71,7 +71,7 @@ fn first_lead(search: &mut Search, flat: Flat) -> Outline
     };
     let mut limit = Rows(next_limit(lead, lead.width, flat.cells).0 / LOW);
     while flat.tallest < limit {
-        limit = Rows(flat.tallest.0.max(limit.0 / 2));
+        limit = flat.tallest.max(Rows(limit.0 / 2));
         let Some(o) = search.outline(limit) else {
             return lead;
         };

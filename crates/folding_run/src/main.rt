@@ -336,12 +336,12 @@ fn too_many(out: &mut impl Write) -> io::Result<()> {
     case(out, "257 apart", &file, Apart, &[])
 }
 
-fn choose_case<'a>(
+fn choose_case(
     out: &mut impl Write,
     label: &str,
     file: &[u8],
-    first: &'a [u32],
-    second: &'a [u32],
+    first: &[u32],
+    second: &[u32],
 ) -> io::Result<()> {
     write!(out, "{label}")?;
     for x in choose(file, Apart, first, second) {

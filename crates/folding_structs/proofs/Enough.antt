@@ -73,7 +73,7 @@ module _ (kind : Kind) (file : List ℕ) (ps : List Placement) where
       ap (λ (us : List ℕ). measure_of kind file us) k ∙ first_enough
 
   -- They stand in rows, three by three.
-  pub rows_read : (n : ℕ) (rows : List (List ℕ)) → n ≡ min (length ps) 256 → take n rows ≡ map numbers_of (take n ps)
-      → measure_of kind file (flat_map (λ x. x) (take n rows)) ≡ measure_of kind file (flat_of ps)
+  pub rows_read : (n : ℕ) (rows : List (List ℕ)) → n ≡ min (length ps) 256 → rows ≡ map numbers_of (take n ps)
+      → measure_of kind file (flat_map (λ x. x) rows) ≡ measure_of kind file (flat_of ps)
   rows_read n rows m h =
       rw (h, flat_by_three (take n ps), m) first_enough

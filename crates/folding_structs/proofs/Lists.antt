@@ -4,8 +4,7 @@ use Prim.Native.Nat.{ℕ, suc, ◌+◌, ◌*◌, ◌<◌}
 use native.Mathlib.Omega.{arith}
 use mathlib.Core.List.{List, [], ◌∷◌, ◌++◌, map}
 use Rattle.std.specs.List.{flat_map}
-use Rattle.std.proofs.lemmas.List.{take_more_set, map-append}
-use lib.ListN.{length, take, get_or, set}
+use lib.ListN.{length, take, get_or}
 use lib.Seq.{take-suc}
 use Rattle.folding.specs.declared.Placement.{Placement}
 use Rattle.folding.specs.Placement.{flat_of, numbers_of, none}
@@ -15,13 +14,6 @@ use Rattle.folding.proofs.Flat.{flat_append}
 pub flat_by_three : (ps : List Placement) → flat_map (λ x. x) (map numbers_of ps) ≡ flat_of ps
 flat_by_three [] = refl
 flat_by_three (p ∷ ps) = ap (λ (l : List ℕ). p.group ∷ p.side ∷ p.start ∷ l) (flat_by_three ps)
-
--- The numbers of one placement more.
-pub row_more : (ps : List Placement) (rows : List (List ℕ)) (i : ℕ) → i < length rows → i < length ps → take i rows ≡ map numbers_of (take i ps)
-    → take (i + 1) (set rows i (numbers_of (get_or ps i none))) ≡ map numbers_of (take (i + 1) ps)
-row_more ps rows i h k e =
-    let z : i + 1 ≡ suc i = omega arith in
-    rw (take_more_set rows i (numbers_of (get_or ps i none)) h, e, z, take-suc ps i none k, map-append)
 
 -- One placement more.
 flat_next : (ps : List Placement) (i : ℕ) → i < length ps → flat_of (take (i + 1) ps) ≡ flat_of (take i ps) ++ ((get_or ps i none).group ∷ (get_or ps i none).side ∷ (get_or ps i none).start ∷ [])

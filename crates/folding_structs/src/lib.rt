@@ -6,6 +6,7 @@ ghost use Rattle.terms.specs.Answer.{answer_of};
 ghost use Rattle.folding.specs.Placement.{flat_of};
 ghost use Rattle.folding.specs.Calls.{measure_of};
 
+use arrayvec::ArrayVec;
 use folding::{Outline, Placement};
 use terms::{Kind, MOST_APART, Refusal};
 
@@ -16,12 +17,11 @@ pub fn measure_placements(
 ) -> Result<Outline, Refusal>
     ensures { answer_of result ≡ measure_of kind file.now (flat_of placements.now) }
 {
-    // No stack has more components. What the room holds at first is not read.
+    // No stack has more components.
     let n = placements.len().min(MOST_APART);
-    let first = &placements[..n];
-    let mut numbers = [[0; 3]; MOST_APART];
-    for (i, placement) in first.iter().enumerate() {
-        numbers[i] = <[u32; 3]>::from(*placement);
+    let mut numbers = ArrayVec::<[u32; 3], MOST_APART>::new();
+    for placement in &placements[..n] {
+        numbers.push(<[u32; 3]>::from(*placement));
     }
-    measure::measure(file, kind, numbers[..n].as_flattened())
+    measure::measure(file, kind, numbers.as_slice().as_flattened())
 }

@@ -1,2 +1,3 @@
 pub mod Barred
-pub mod Passing
+pub mod Picking
+pub mod Points

@@ -8,11 +8,12 @@ ghost use Rattle.terms.specs.declared.Kind.TheVariants.{Nested};
 ghost use Rattle.group.specs.Group.{none, FoldPoint};
 ghost use Rattle.group.specs.Table.{Filled};
 ghost use Rattle.group_height.specs.Heights.{fold_rows, HeightAsks};
-ghost use Rattle.group_height.specs.Inner.{PassAsks, Lowest};
+ghost use Rattle.group_height.specs.Inner.{PointAsks, height_by};
 
 use group::NONE;
 use group_table::Table;
 use numbers::{barred, cell, gap};
+use std::iter::once;
 use terms::{Piece, Rows};
 
 // What a fold behind the first p components adds to the rows of its sides, where `outer` is the larger of the gaps before and
@@ -27,31 +28,31 @@ pub fn fold_rows(stack: &[Piece], p: usize, outer: u32) -> u32
     outer + gap(stack, p - 1)
 }
 
-// The fold point of the least height in a filled table.
-fn over_folds(g0: Rows, stack: &[Piece], cells: &[u32]) -> usize
-    requires { PassAsks g0.0 (seams_in stack.now) cells.now }
-    ensures { Lowest g0.0 (seams_in stack.now) cells.now result }
+// The height of a group by its table, with the fold behind the first p components, or without one where they are all of them.
+fn height_at(g0: Rows, table: Table, p: usize) -> u32
+    requires { PointAsks g0.0 (seams_in table.stack.now) table.cells.now × (0 < p) × (p ≤ length table.stack.now) }
+    ensures { result ≡ height_by g0.0 (seams_in table.entry.stack.now) table.entry.cells.now p }
 {
     let before = g0.0;
-    let m = stack.len();
-    let last = gap(stack, m - 1);
+    let m = table.stack.len();
+    let last = gap(table.stack, m - 1);
     let outer = before.max(last);
-    let mut v = cells[0] + before + last;
-    let mut at = m;
-    for p in 1..m {
-        let t = cell(cells, p, p) + fold_rows(stack, p, outer);
-        if t < v {
-            v = t;
-            at = p;
-        }
+    if p == m {
+        return table.cells[0] + before + last;
     }
-    at
+    cell(table.cells, p, p) + fold_rows(table.stack, p, outer)
 }
 
 // The number of components on the left of a group that is as low as it can be under the cap of its table.
-pub fn fold_point(g0: Rows, stack: &[Piece], table: Table) -> usize
-    requires { columns stack.now (HeightAsks g0.0) table.cells.now × sizes stack.now Filled table.cells.now table.cap.0 }
-    ensures { FoldPoint Nested g0.0 (stack_in stack.now) table.entry.cap.0 result }
+pub fn fold_point(g0: Rows, table: Table) -> usize
+    requires { columns table.stack.now (HeightAsks g0.0) table.cells.now
+        × sizes table.stack.now Filled table.cells.now table.cap.0 }
+    ensures { FoldPoint Nested g0.0 (stack_in table.entry.stack.now) table.entry.cap.0 result }
 {
-    over_folds(g0, stack, table.cells)
+    // Of equals the first is kept, so that a group has a fold only where it is lower with one.
+    let m = table.stack.len();
+    once(m)
+        .chain(1..m)
+        .min_by_key(|&p| height_at(g0, table, p))
+        .unwrap_or(m)
 }

@@ -15,6 +15,7 @@ use Rattle.terms.specs.declared.Component.{Component}
 use Rattle.terms.specs.declared.Kind.TheVariants.{Nested}
 use Rattle.terms.specs.declared.Slices.{Slices}
 use Rattle.terms.specs.Seams.{component_in, components_in}
+use Rattle.numbers.specs.Table.{cells}
 use Rattle.terms.proofs.Order.{order}
 use Rattle.terms.proofs.Tabulate.{tabulate-length}
 use Rattle.group.specs.Group.{widest, may_stand, least_height, least_cap, least_width}
@@ -90,6 +91,29 @@ module _ {g0 flat : ℕ} {hs ws gs es : List ℕ} {limit wide low cap : ℕ} (r 
       go : (least_width Nested g0 cs limit ≤ cap) ⊎ (cap < least_width Nested g0 cs limit) → (wide ≤ o.width.0) × (o.width.0 ≤ cap) × (o.height.0 ≡ least_height Nested g0 cs o.width.0)
       go (inl k) = let e = same_Some _ _ (n.within k) in rw e (least_from k, k, refl)
       go (inr k) = absurd (none-some o (sym (n.over k)))
+
+  -- Whatever the table holds.
+  pub table_alone : (es' : List ℕ) → cells ≤ length es' → LowAsks g0 flat hs ws gs es' limit wide low cap
+  table_alone es' long = record {
+    asks = record {
+      asks = record {
+        table = record { columns = r.asks.asks.table.columns; few = r.asks.asks.table.few; room = long };
+        some = r.asks.asks.some;
+        seams_long = r.asks.asks.seams_long;
+        gaps_low = r.asks.asks.gaps_low;
+        first_low = r.asks.asks.first_low;
+        free = r.asks.asks.free;
+      };
+      is_widest = r.asks.is_widest;
+      from = r.asks.from;
+      to = r.asks.to;
+      limit_low = r.asks.limit_low;
+    };
+    is_flat = r.is_flat;
+    from = r.from;
+    to = r.to;
+    over = r.over;
+  }
 
   -- What a search found is small, and holds as it is noted.
   pub found_small : (found : Result Outline Slices) → Narrow g0 hs ws gs limit cap (result_ok found) → Small found

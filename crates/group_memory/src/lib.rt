@@ -3,7 +3,8 @@
 // does not is still a bound from below. Each group has a word of its own.
 #![tactic(auto)]
 
-ghost use Rattle.std.specs.Prelude.{◌≡◌, min};
+ghost use Rattle.std.specs.Prelude.{◌≡◌, min, drop};
+ghost use Rattle.numbers.specs.Table.{cells};
 ghost use Rattle.terms.specs.Pieces.{columns};
 ghost use Rattle.group_search.specs.Widths.{Narrow, LowAsks, bound_in};
 ghost use Rattle.group_memory.specs.Memory.{word_width, word_height, never, Holds, MemoryAsks};
@@ -11,6 +12,7 @@ ghost use Rattle.group_memory.specs.Inner.{Small, Recalled, height_in};
 
 use folding::Outline;
 use group_search::Sought;
+use numbers::CELLS;
 use terms::{Piece, Rows, Slices};
 
 // A word has room for this many heights. The other 13 bits are a width, and caps are at most 8,000.
@@ -65,14 +67,15 @@ fn search(
         sought.limit.0 sought.widest.0 low.0 cap.0 }
     ensures narrow { columns stack.now (Narrow sought.before.0) sought.limit.0 cap.0 result }
     ensures holds { columns stack.now (Holds sought.before.0) sought.limit.0 sought.widest.0 word.new }
+    ensures beyond { drop cells table.new ≡ drop cells table.old }
 {
-    let found = group_search::narrowest(sought, stack, table, low, cap);
+    let found = group_search::narrowest(sought, stack, &mut table[..CELLS], low, cap);
     *word = note(found);
     found.ok()
 }
 
 // The least width up to the cap at which the group is within the limit, as `group_search::narrowest` finds it, with the help
-// of the group's word, which must hold for this limit. The content of the table is free afterwards.
+// of the group's word, which must hold for this limit. The content of the table's cells is free afterwards.
 pub fn narrowest(
     sought: Sought,
     stack: &[Piece],
@@ -84,6 +87,7 @@ pub fn narrowest(
         sought.limit.0 sought.widest.0 cap.0 }
     ensures narrow { columns stack.now (Narrow sought.before.0) sought.limit.0 cap.0 result }
     ensures holds { columns stack.now (Holds sought.before.0) sought.limit.0 sought.widest.0 word.new }
+    ensures beyond { drop cells table.new ≡ drop cells table.old }
 {
     match recall(*word, sought.limit) {
         Ok(known) => (known.width <= cap).then_some(known),

@@ -11,9 +11,10 @@ ghost use Rattle.group_table.specs.Inner.{Sharing, Ready, Ending, Ended, RowAsks
 use numbers::{STRIDE, cell, height, width};
 use terms::{Piece, Slices};
 
-// The rows of each pair of sides of a group, as they are where its width may be at most the cap.
+// A group's components, and the rows of each pair of sides of it, as they are where its width may be at most the cap.
 #[derive(Clone, Copy, Debug)]
 pub struct Table<'a> {
+    pub stack: &'a [Piece],
     pub cells: &'a [u32],
     pub cap: Slices,
 }
@@ -76,30 +77,30 @@ pub fn walk(stack: &[Piece], p: usize, q: usize, row: u32, cap: Slices, fit: Sli
 }
 
 // All rows of a group whose sides stand there: those that are taken, and what the rest adds.
-fn ending(stack: &[Piece], cells: &[u32], at: Standing) -> u32
-    requires { Ending (heights_in stack.now) cells.now at }
-    ensures { Ended (heights_in stack.now) cells.now at result }
+fn ending(table: Table, at: Standing) -> u32
+    requires { Ending (heights_in table.stack.now) table.cells.now at }
+    ensures { Ended (heights_in table.entry.stack.now) table.entry.cells.now at result }
 {
     let x = at.left;
     let y = at.right;
     if x == 0 {
-        return at.right_row + cells[y];
+        return at.right_row + table.cells[y];
     }
-    if y == stack.len() {
-        return at.left_row + cell(cells, x, y);
+    if y == table.stack.len() {
+        return at.left_row + cell(table.cells, x, y);
     }
-    let left = at.left_row + height(stack, x - 1) + cell(cells, x - 1, y);
-    let right = at.right_row + height(stack, y) + cell(cells, x, y + 1);
+    let left = at.left_row + height(table.stack, x - 1) + cell(table.cells, x - 1, y);
+    let right = at.right_row + height(table.stack, y) + cell(table.cells, x, y + 1);
     left.min(right)
 }
 
 // The entry (p, q), from entries that are there already.
-fn entry(stack: &[Piece], table: Table, p: usize, q: usize) -> u32
-    requires { sizes stack.now Ready table.cells.now table.cap.0 p q }
-    ensures { result ≡ sizes stack.now entry table.entry.cap.0 p q }
+fn entry(table: Table, p: usize, q: usize) -> u32
+    requires { sizes table.stack.now Ready table.cells.now table.cap.0 p q }
+    ensures { result ≡ sizes table.entry.stack.now entry table.entry.cap.0 p q }
 {
-    let stop = walk(stack, p, q, 0, table.cap, Slices(0));
-    ending(stack, table.cells, stop.at)
+    let stop = walk(table.stack, p, q, 0, table.cap, Slices(0));
+    ending(table, stop.at)
 }
 
 // Row p of the table, from the right end down to column p.
@@ -108,7 +109,12 @@ fn fill_row(stack: &[Piece], e: &mut [u32], p: usize, cap: Slices)
     ensures { sizes stack.now RowDone e.old e.new cap.0 p p }
 {
     for q in (p..stack.len()).rev() {
-        e[p * STRIDE + q] = entry(stack, Table { cells: e, cap }, p, q);
+        let table = Table {
+            stack,
+            cells: e,
+            cap,
+        };
+        e[p * STRIDE + q] = entry(table, p, q);
     }
 }
 

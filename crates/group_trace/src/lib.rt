@@ -8,7 +8,6 @@ ghost use Rattle.group_trace.specs.Trace.{WriteAsks, TurnAsks, left_turn, right_
 
 use group_table::{Standing, Table};
 use numbers::{cell, height, width};
-use terms::Piece;
 
 // The side of its group's fold on which a component lies.
 #[derive(Clone, Copy, Debug, PartialEq, Eq)]
@@ -79,15 +78,16 @@ impl Turn {
     // Both sides have components left: the lower one goes first where the two fit side by side, else the one that leaves
     // the fewer rows.
     #[tactic(auto, using(crate::proofs::Turns::beside_left, crate::proofs::Turns::beside_right, crate::proofs::Turns::left_comes_first, crate::proofs::Turns::right_first))]
-    fn meet(at: Standing, stack: &[Piece], table: Table) -> Turn
-        requires { sizes stack.now TurnAsks table.cells.now at table.cap.0 × (0 < at.left) × (at.right < length (heights_in stack.now)) }
-        ensures { sizes stack.now (Turned table.entry.cap.0) at result }
+    fn meet(at: Standing, table: Table) -> Turn
+        requires { sizes table.stack.now TurnAsks table.cells.now at table.cap.0 × (0 < at.left)
+            × (at.right < length (heights_in table.stack.now)) }
+        ensures { sizes table.entry.stack.now (Turned table.entry.cap.0) at result }
     {
         let x = at.left - 1;
         let y = at.right;
-        let left = at.left_row + height(stack, x);
-        let right = at.right_row + height(stack, y);
-        if width(stack, x) + width(stack, y) <= table.cap.0 {
+        let left = at.left_row + height(table.stack, x);
+        let right = at.right_row + height(table.stack, y);
+        if width(table.stack, x) + width(table.stack, y) <= table.cap.0 {
             if left <= right {
                 return Turn::left(at, left, at.right_row);
             }
@@ -101,17 +101,25 @@ impl Turn {
 
     // The turn where the sides stand so: the only side that has components left goes on, or the two meet.
     #[tactic(auto, using(crate::proofs::Turns::only_left, terms::proofs::Pieces::heights_length))]
-    fn of(at: Standing, stack: &[Piece], table: Table) -> Turn
-        requires { sizes stack.now TurnAsks table.cells.now at table.cap.0 }
-        ensures { sizes stack.now (Turned table.entry.cap.0) at result }
+    fn of(at: Standing, table: Table) -> Turn
+        requires { sizes table.stack.now TurnAsks table.cells.now at table.cap.0 }
+        ensures { sizes table.entry.stack.now (Turned table.entry.cap.0) at result }
     {
         if at.left == 0 {
-            return Turn::right(at, at.left_row, at.right_row + height(stack, at.right));
+            return Turn::right(
+                at,
+                at.left_row,
+                at.right_row + height(table.stack, at.right),
+            );
         }
-        if at.right == stack.len() {
-            return Turn::left(at, at.left_row + height(stack, at.left - 1), at.right_row);
+        if at.right == table.stack.len() {
+            return Turn::left(
+                at,
+                at.left_row + height(table.stack, at.left - 1),
+                at.right_row,
+            );
         }
-        Turn::meet(at, stack, table)
+        Turn::meet(at, table)
     }
 }
 
@@ -124,9 +132,9 @@ fn put(out: &mut [u32], i: usize, group: u32, side: Side, start: u32)
 }
 
 #[tactic(auto, using(crate::proofs::Writing::start))]
-pub fn write_group(stack: &[Piece], table: Table, out: &mut [u32], group: u32, left: usize)
-    requires { sizes stack.now WriteAsks table.cells.now out.old left table.cap.0 }
-    ensures { out.new ≡ sizes stack.now (group_into table.entry.cap.0 group left) out.old }
+pub fn write_group(table: Table, out: &mut [u32], group: u32, left: usize)
+    requires { sizes table.stack.now WriteAsks table.cells.now out.old left table.cap.0 }
+    ensures { out.new ≡ sizes table.entry.stack.now (group_into table.entry.cap.0 group left) out.old }
 {
     let mut at = Standing {
         left,
@@ -134,8 +142,8 @@ pub fn write_group(stack: &[Piece], table: Table, out: &mut [u32], group: u32, l
         left_row: 0,
         right_row: 0,
     };
-    for _turn in 0..stack.len() {
-        let t = Turn::of(at, stack, table);
+    for _turn in 0..table.stack.len() {
+        let t = Turn::of(at, table);
         put(out, t.index, group, t.side, t.start);
         at = t.next;
     }

@@ -33,7 +33,7 @@ impl Entry {
     };
 
     // Whether a layout is narrower than another, or as wide and lower. Widths are compared first and alone: most layouts are too
-    // wide, and the pair of both numbers in one comparison made apart folds a third slower.
+    // wide, and with the order of the pair, which compares both numbers, apart folds took a fifth more instructions.
     pub fn is_better(self, other: Entry) -> bool
         ensures { result ≡ better (layout_in self) (layout_in other) }
     {

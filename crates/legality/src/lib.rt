@@ -81,7 +81,7 @@ fn may_stand_next(kind: Kind, x: Placed, y: Placed) -> bool
     stands_alone(kind, y) && may_follow(x, y) && stays_with(x, y)
 }
 
-// Whether the placements are legal, in one pass.
+// Whether the placements are legal, in one pass: `all` over pairs would read each placement twice.
 pub fn is_legal(kind: Kind, stack: &[Piece], placements: &[[u32; 3]]) -> bool
     requires { columns stack.now Listed (placements_in placements.now) × (0 < length stack.now) }
     ensures { result

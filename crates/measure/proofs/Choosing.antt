@@ -1,5 +1,5 @@
 -- The ways in which choosing ends.
-use Rattle.std.proofs.Common.{◌≡◌, ℕ, ◌*◌, ◌/◌, ◌≤◌, List, [], Option, Some, length, ltb, refl, sym, ◌∙◌, arith}
+use Rattle.std.proofs.Common.{◌≡◌, ℕ, ◌*◌, ◌/◌, ◌≤◌, List, Option, Some, length, ltb, refl, sym, ◌∙◌, arith}
 use borrow.Author.Tests.{ltb-false}
 use Rattle.terms.specs.declared.Component.{Component}
 use Rattle.terms.specs.declared.Kind.{Kind}
@@ -7,7 +7,6 @@ use Rattle.terms.specs.declared.Piece.{Piece}
 use Rattle.terms.specs.Answer.{Answer, refusal, result}
 use Rattle.terms.specs.Pieces.{stack_in}
 use Rattle.terms.proofs.Answers.{passed}
-use Rattle.stack.specs.File.{check_of}
 use Rattle.stack.proofs.Reading.{Held, components_held, count_held}
 use Rattle.folding.specs.declared.Outline.{Outline}
 use Rattle.folding.specs.declared.Winner.{Winner}
@@ -29,9 +28,6 @@ second_measured (result o) (result p) e = (p, refl)
 long : (kind : Kind) (cs : List Component) (flat : List ℕ) (o : Outline) → measure_in kind cs flat ≡ result o → 3 * length cs ≤ length flat
 unfolding measure_in
 long kind cs flat o e = let p = passed (ltb (length flat / 3) (length cs)) 8 _ o e in omega (arith, ltb-false (length flat / 3) (length cs) p.0)
-
-pub chose_refused : (kind : Kind) (file first second : List ℕ) (k : ℕ) → check_of kind file ≡ refusal k → [] ≡ choose_of kind file first second
-chose_refused kind file first second k e = rw e
 
 -- What was chosen by the pieces that were read.
 module _ {kind : Kind} {file : List ℕ} {s : List Piece} (h : Held kind file s) (first second : List ℕ) {r w : Option Winner}

@@ -35,7 +35,7 @@ pub none_left : (lent rest : List (List ℕ)) (from : ℕ) → rest ≡ drop fro
 none_left lent rest from r e = omega (arith, ap length r, length-drop from lent, length-map lent placement_of)
 
 -- A run of placements that is handed out as one group, the first of the `rest` behind `from` others.
-module _ (lent run more rest : List (List ℕ)) (from : ℕ) (l : from ≤ length (placements_in lent)) (r : rest ≡ drop from lent) (cut : rest ≡ run ++ more) (some : 0 < length run) (by : IsChunkByPrefix alike rest (length run)) where
+module _ (lent run more rest : List (List ℕ)) (from : ℕ) (r : rest ≡ drop from lent) (cut : rest ≡ run ++ more) (some : 0 < length run) (by : IsChunkByPrefix alike rest (length run)) where
   abbrev ps : List Placement
   ps = placements_in lent
 
@@ -50,7 +50,7 @@ module _ (lent run more rest : List (List ℕ)) (from : ℕ) (l : from ≤ lengt
 
   read : (j : ℕ) → j < length rest → group_at ps (from + j) ≡ (placement_of (get_or rest j [])).group
   read j h =
-      ap (λ (p : Placement). p.group) (read_at lent (from + j) (omega (arith, all, l, long))
+      ap (λ (p : Placement). p.group) (read_at lent (from + j) (omega (arith, long))
       ∙ ap placement_of (sym (ap (λ (v : List (List ℕ)). get_or v j []) r ∙ get_or-drop from lent j [])))
 
   same : (j : ℕ) → j < length run → group_at ps (from + j) ≡ group_at ps from
@@ -73,10 +73,7 @@ module _ (lent run more rest : List (List ℕ)) (from : ℕ) (l : from ≤ lengt
   }
 
   pub run_placed : placements_in run ≡ part from (from + length run) ps
-  run_placed =
-      let z : from + length run - from ≡ length run = omega arith in
-      let e : part from (from + length run) lent ≡ run = ap (λ (k : ℕ). take k (drop from lent)) z ∙ ap (take (length run)) (sym r ∙ cut) ∙ take-append_seam run more in
-      ap placements_in (sym e) ∙ map_part placement_of from (from + length run) lent
+  run_placed = ap placements_in (sym (ap (take (length run)) cut ∙ take-append_seam run more)) ∙ map_part placement_of from (length run) lent rest r
 
   pub more_left : more ≡ drop (from + length run) lent
   more_left = sym (sym (drop-drop (length run) from lent) ∙ ap (drop (length run)) (sym r ∙ cut) ∙ drop-append_seam run more)

@@ -30,9 +30,11 @@ part_length a e l h k = length-take-le (e - a) (drop a l) (omega (arith, length-
 pub part_at : {A : Type 0} (a e j : ℕ) (l : List A) (d : A) → j < e - a → get_or (part a e l) j d ≡ get_or l (a + j) d
 part_at a e j l d h = get_or-take (e - a) (drop a l) j d h ∙ get_or-drop a l j d
 
--- A column of a part of a stack is that part of the column, and so are its placements.
-pub map_part : {A B : Type 0} (f : A → B) (a e : ℕ) (s : List A) → map f (take (e - a) (drop a s)) ≡ part a e (map f s)
-map_part f a e s = rw (drop-map, take-map)
+-- A column of the first n that are left of a stack is a part of its column, and so it is with placements.
+pub map_part : {A B : Type 0} (f : A → B) (from n : ℕ) (all rest : List A) → rest ≡ drop from all → map f (take n rest) ≡ part from (from + n) (map f all)
+map_part f from n all rest r =
+    let z : from + n - from ≡ n = omega arith in
+    rw (r, z, drop-map, take-map)
 
 -- What is found so far, of the components before `from`, and what is left.
 pub record Walked (hs ws seams : List ℕ) (ps : List Placement) (width height before from : ℕ) : Type 0 where
@@ -131,21 +133,20 @@ module _ {hs ws seams : List ℕ} {ps : List Placement} (v : OneEach hs ws seams
         cut_tabulate g (length hs) from to within e.same (λ h. e.other (omega (arith, v.one_each))) e.some
         ∙ ap (λ (m : List Placed). m ∷ groups_of (drop to (placed_in hs ws seams ps))) (sym (mine_is from to e.some within))
 
-    last : last_gap (mine from to e.some within) ≡ gap_at seams (to - 1)
-    last =
-        let k : suc (to - from - 1) ≡ to - from = omega (arith, e.some) in
-        ap last_gap (mine_is from to e.some within)
-        ∙ subst (λ (d : ℕ). last_gap (tabulate (λ j. g (from + j)) d) ≡ gap_at seams (to - 1)) k
-        (gap_tabulate (λ j. g (from + j)) (to - from - 1) ∙ ap (λ (m : ℕ). gap_at seams m) (omega (arith, e.some)))
+    last : {j : ℕ} → suc j ≡ to - from → last_gap (mine from to e.some within) ≡ gap_at (part from to seams) j
+    last {j} n =
+        let k : suc j ≡ length (part from to hs) = n ∙ sym (long from to e.some within) in
+        subst (λ (d : ℕ). last_gap (tabulate (placed_at (part from to hs) (part from to ws) (part from to seams) (part from to ps)) d) ≡ gap_at (part from to seams) j) k
+        (gap_tabulate (placed_at (part from to hs) (part from to ws) (part from to seams) (part from to ps)) j)
 
-    pub walk_on : {w₁ h₁ height₁ before₁ : ℕ} → w₁ ≡ group_width (mine from to e.some within) → h₁ ≡ group_height before (mine from to e.some within) → w₁ ≤ most_width
-        → height₁ ≡ max height h₁ → before₁ ≡ gap_at seams (to - 1) → before₁ ≤ 65535 → Walked hs ws seams ps (width + w₁) height₁ before₁ to
+    pub walk_on : {w₁ h₁ height₁ before₁ j : ℕ} → w₁ ≡ group_width (mine from to e.some within) → h₁ ≡ group_height before (mine from to e.some within) → w₁ ≤ most_width
+        → height₁ ≡ max height h₁ → suc j ≡ to - from → before₁ ≡ gap_at (part from to seams) j → before₁ ≤ 65535 → Walked hs ws seams ps (width + w₁) height₁ before₁ to
     unfolding layout_width layout_height
-    walk_on {w₁} {h₁} {height₁} {before₁} a b c d f s =
+    walk_on {w₁} {h₁} {height₁} {before₁} {j} a b c d n f s =
         let l = long from to e.some within in
         let lw = rw groups at w.width_left in
         let lh = rw groups at w.height_left in
-        let p : before₁ ≡ last_gap (mine from to e.some within) = f ∙ sym last in
+        let p : before₁ ≡ last_gap (mine from to e.some within) = f ∙ sym (last n) in
         record {
           inside = within;
           width_left = omega arith;

@@ -4,6 +4,7 @@
 ghost use Rattle.std.specs.Prelude.{◌≡◌, IfSome, ℕ, ◌+◌, ◌-◌, ◌≤◌, ◌<◌, length};
 ghost use Rattle.std.specs.List.{prefix_len};
 ghost use Rattle.terms.specs.Pieces.{heights_in, seams_in, columns};
+ghost use Rattle.terms.specs.Seams.{gap_at};
 ghost use Rattle.folding.specs.Legal.{most_start};
 ghost use Rattle.folding.specs.Outline.{groups_of, greatest};
 ghost use Rattle.folding.specs.StartRows.{AllAtStart};
@@ -52,7 +53,7 @@ impl<'a> Group<'a> {
     {
         let first = self.end(0);
         let last = self.end(self.stack.len() - 1);
-        Rows(first.0.max(last.0))
+        first.max(last)
     }
 
     // What component i adds to the sum of a row.
@@ -99,7 +100,7 @@ impl<'a> Group<'a> {
         requires { (low ≤ high) × (high ≤ length self.now.stack.now) × (high - low < length self.now.stack.now) }
         ensures { NextStart (placements_in self.now.placements.now) (length self.now.stack.now) low high result }
     {
-        low != 0 && (high == self.stack.len() || self.start(low - 1).0 <= self.start(high).0)
+        low != 0 && (high == self.stack.len() || self.start(low - 1) <= self.start(high))
     }
 
     // The greatest row sum where k components are on the left. It occurs at a row where a component starts. One such row is
@@ -111,22 +112,31 @@ impl<'a> Group<'a> {
     {
         let mut low = k;
         let mut high = k;
-        let mut widest: u32 = 0;
+        let mut widest = Slices(0);
         // The turns have a name, since the invariant speaks of them.
         for _turn in 0..self.stack.len() {
             if self.left_next(low, high) {
                 let other = (k < high).then_some(high - 1);
                 low -= 1;
                 let left = self.start_sum(low, other);
-                widest = widest.max(left.0);
+                widest = widest.max(left);
             } else {
                 let other = (low < k).then_some(low);
                 let right = self.start_sum(high, other);
-                widest = widest.max(right.0);
+                widest = widest.max(right);
                 high += 1;
             }
         }
-        Slices(widest)
+        widest
+    }
+
+    // The gap at the group's end.
+    fn gap_behind(&self) -> Rows
+        requires { 0 < length self.now.stack.now }
+        ensures value { result.0 ≡ gap_at (seams_in self.now.stack.now) (length self.now.stack.now - 1) }
+        ensures upper_bound { result.0 ≤ 65535 }
+    {
+        Rows(gap(self.stack, self.stack.len() - 1))
     }
 
     // The height behind the gap `before`, where k components are on the left.
@@ -139,7 +149,7 @@ impl<'a> Group<'a> {
         let n = self.stack.len();
         let t = self.top().0;
         let g0 = before.0;
-        let g1 = gap(self.stack, n - 1);
+        let g1 = self.gap_behind().0;
         if k < n {
             Rows(t + g0.max(g1) + gap(self.stack, k - 1))
         } else {
@@ -167,24 +177,24 @@ fn of_each(stack: &[Piece], placements: &[[u32; 3]]) -> Outline
         ≡ outline_in (columns stack.now placed_in (placements_in placements.now)) }
 {
     let mut total: u32 = 0;
-    let mut highest: u32 = 0;
-    let mut before = 0;
-    let mut from = 0;
+    let mut highest = Rows(0);
+    let mut before = Rows(0);
+    let mut rest = stack;
     for run in placements.chunk_by(|p, q| Placement::from(*p).group == Placement::from(*q).group) {
-        let to = from + run.len();
+        let (pieces, behind) = rest.split_at(run.len());
         let group = Group {
-            stack: &stack[from..to],
+            stack: pieces,
             placements: run,
         };
-        let outline = group.outline(Rows(before));
+        let outline = group.outline(before);
         total += outline.width.0;
-        highest = highest.max(outline.height.0);
-        before = gap(stack, to - 1);
-        from = to;
+        highest = highest.max(outline.height);
+        before = group.gap_behind();
+        rest = behind;
     }
     Outline {
         width: Slices(total),
-        height: Rows(highest),
+        height: highest,
     }
 }
 

@@ -1,6 +1,6 @@
 -- The search over all first groups.
 use Prim.Native.Nat.{ℕ, suc, ◌+◌, ◌≤◌, ◌<◌, max}
-use mathlib.Core.Path.{◌≡◌, refl, sym, ap, ◌∙◌}
+use mathlib.Core.Path.{◌≡◌, refl, sym, ap, subst, ◌∙◌}
 use mathlib.Core.Logic.{◌⊎◌, inl, inr}
 use mathlib.Core.List.{List}
 use native.Mathlib.Numerals.{add-one}
@@ -13,6 +13,7 @@ use Rattle.std.proofs.lemmas.Bool.{ltb-true}
 use Rattle.std.proofs.lemmas.Option.{cond_some}
 use Rattle.terms.specs.declared.Component.{Component}
 use Rattle.terms.specs.declared.Kind.{Kind}
+use Rattle.terms.specs.declared.Kind.TheVariants.{Nested}
 use Rattle.terms.specs.declared.Piece.{Piece}
 use Rattle.terms.specs.declared.Slices.{Slices}
 use Rattle.terms.specs.Pieces.{heights_in, stack_in, columns}
@@ -23,10 +24,11 @@ use Rattle.folding.specs.declared.Outline.{Outline}
 use Rattle.group.specs.Rows.{gap, tall}
 use Rattle.group.specs.Group.{none, widest}
 use Rattle.layout.specs.Layout.{Layout, unmet, groups, candidate, choice, layouts, layout_of}
-use Rattle.layout.specs.Plan.{layout_in, outline_in, extents}
+use Rattle.layout.specs.Plan.{layout_in, outline_in, extents, StackLists}
 use Rattle.layout.specs.declared.Entry.{Entry}
+use Rattle.plan.specs.declared.Left.{Left}
 use Rattle.plan.specs.declared.Sizes.{Sizes}
-use Rattle.plan.specs.Asks.{GroupAsks, tried, most_rows, SizesOf, FirstAsks, Under, best_to}
+use Rattle.plan.specs.Asks.{GroupAsks, tried, most_rows, SizesAsk, SizesOf, FirstAsks, Under, best_to}
 use Rattle.plan.proofs.Columns.{stack_length, stack_take, stack_lists_take, entry_at, width_at, height_at}
 use Rattle.plan.proofs.Sizing.{no_piece, SizesTo, sizes_start, sizes_more}
 use Rattle.model.specs.Layout.{NoWorse, candidate_for}
@@ -62,7 +64,25 @@ pub record Scanned (kind : Kind) (limit g0 bound : ℕ) (s : List Piece) (best :
 abbrev pub start : ℕ → Entry
 start bound = record { width = record { 0 = bound }; height = record { 0 = none }; end = 0 }
 
-module _ {kind : Kind} {limit g0 : ℕ} (s : List Piece) (p : List Entry) (a : extents p (columns s (FirstAsks kind limit g0))) where
+module _ (l : Left) where
+  abbrev kind : Kind
+  kind = l.ask.kind
+
+  abbrev limit : ℕ
+  limit = l.ask.limit.0
+
+  abbrev g0 : ℕ
+  g0 = l.ask.before.0
+
+  abbrev s : List Piece
+  s = l.stack.now
+
+  abbrev p : List Entry
+  p = l.later.now
+
+  abbrev a : extents l.later.now (columns l.stack.now (FirstAsks l.ask.kind l.ask.limit.0 l.ask.before.0))
+  a = l.first
+
   abbrev cs : List Component
   cs = stack_in s
 
@@ -77,10 +97,16 @@ module _ {kind : Kind} {limit g0 : ℕ} (s : List Piece) (p : List Entry) (a : e
     few : length (take (j + 1) s) ≡ j + 1
     few = length-take-le (j + 1) s (omega arith)
 
+    lists : columns (take (j + 1) s) (StackLists kind)
+    lists = stack_lists_take s (j + 1) (omega arith) a.lists
+
+    pub sizes_asks : SizesAsk (heights_in (take (j + 1) s))
+    sizes_asks = record { few = omega (arith, lists.few, most_256 kind); low = lists.low }
+
     group_asks : {best : Entry} {z : Sizes} → z.tall.0 ≡ tall (take (j + 1) (stack_in s)) → z.tall.0 ≤ none → z.widest.0 ≡ widest (take (j + 1) (stack_in s)) → Fair (layout_in best)
         → columns (take (j + 1) s) (GroupAsks kind limit g0 z) best (entry_at p j)
     group_asks t low w fair = record {
-      lists = stack_lists_take s (j + 1) (omega arith) a.lists;
+      lists = lists;
       some = omega (arith, heights_length (take (j + 1) s), few);
       limit_most = a.limit_most;
       before = a.before;
@@ -104,25 +130,25 @@ module _ {kind : Kind} {limit g0 : ℕ} (s : List Piece) (p : List Entry) (a : e
   starts (Some b) u = (u.0, λ h. u.1)
 
   scan_from : (bound : ℕ) → Starts kind limit g0 (stack_in s) bound → Scanned kind limit g0 bound s (start bound) (record { tall = record { 0 = 0 }; widest = record { 0 = 0 } }) 0
-  scan_from bound p = record {
-    starts = p;
+  scan_from bound u = record {
+    starts = u;
     best_is = below (order none bound);
-    fair = no_wider_nor_higher p.0 (λ e. omega arith);
+    fair = no_wider_nor_higher u.0 (λ e. omega arith);
     sizes = sizes_start s;
   }
     where
       below : (none ≤ bound) ⊎ (bound < none) → Below bound (best_to kind limit g0 (stack_in s) 0) (layout_in (start bound))
       below (inr h) = inr (h, rw (best_none kind limit g0 cs) (omega arith), omega arith)
-      below (inl h) = let e : bound ≡ none = omega (arith, p.0) in rw e (inl (sym (best_none kind limit g0 cs)))
+      below (inl h) = let e : bound ≡ none = omega (arith, u.0) in rw e (inl (sym (best_none kind limit g0 cs)))
 
   pub scan_start : (bound : Option Slices) → Under kind limit g0 (stack_in s) bound
       → Scanned kind limit g0 (unwrap_or bound (record { 0 = none })).0 s (start (unwrap_or bound (record { 0 = none })).0) (record { tall = record { 0 = 0 }; widest = record { 0 = 0 } }) 0
   scan_start bound u = scan_from _ (starts bound u)
 
   module _ {bound : ℕ} {best : Entry} {z : Sizes} {k : ℕ} (t : Scanned kind limit g0 bound s best z k) where
-    found : (l : Layout) → l ≡ layout_of kind limit g0 (stack_in s) → Below bound l (layout_in best) → layout_in best ≡ layout_of kind limit g0 (stack_in s)
-    found l e (inl p) = p ∙ e
-    found l e (inr p) = absurd (omega (arith, p.1, ap (λ (z : Layout). z.width) e, t.starts.1 p.0))
+    found : (f : Layout) → f ≡ layout_of kind limit g0 (stack_in s) → Below bound f (layout_in best) → layout_in best ≡ layout_of kind limit g0 (stack_in s)
+    found f e (inl h) = h ∙ e
+    found f e (inr h) = absurd (omega (arith, h.1, ap (λ (z : Layout). z.width) e, t.starts.1 h.0))
 
     pub scan_done : k ≡ length s → layout_in best ≡ layout_of kind limit g0 (stack_in s)
     scan_done h =
@@ -135,7 +161,7 @@ module _ {kind : Kind} {limit g0 : ℕ} (s : List Piece) (p : List Entry) (a : e
       more = sizes_more s a.lists.low h t.sizes et ew
 
       pub scan_stop : most_rows kind limit < z'.tall.0 → layout_in best ≡ layout_of kind limit g0 (stack_in s)
-      scan_stop l =
+      scan_stop over =
           let e : z'.tall.0 ≡ tall (take (suc k) (stack_in s)) = rw (add-one k) at more.tall_is in
           found _ (sym (best_stop kind limit g0 cs (length cs) k (omega (arith, long)) (omega (arith, e))) ∙ best_of_all kind limit g0 cs (omega (arith, long)))
           t.best_is
@@ -151,23 +177,24 @@ module _ {kind : Kind} {limit g0 : ℕ} (s : List Piece) (p : List Entry) (a : e
         sizes = more;
       }
 
--- A layout whose first group ends with the component at `last` bounds the best one.
-module _ {kind : Kind} {limit g0 : ℕ} (s : List Piece) (p : List Entry) (a : extents p (columns s (FirstAsks kind limit g0))) (last : ℕ) (within : last < length s) {z : Sizes}
-    (sizes : SizesOf (stack_in (take (last + 1) s)) z) where
-  first : stack_in (take (last + 1) s) ≡ take (last + 1) (stack_in s)
-  first = stack_take s (last + 1) (omega arith)
+  -- A layout whose first group ends with the component at `last` bounds the best one.
+  module _ (nested : l.ask.kind ≡ Nested) (last : ℕ) (within : last < length s) where
+    module _ {z : Sizes} (sizes : SizesOf (stack_in (take (last + 1) s)) z) where
+      pub bound_asks : columns (take (last + 1) s) (GroupAsks Nested limit g0 z) (start none) (entry_at p last)
+      bound_asks =
+          subst (λ (k : Kind). columns (take (last + 1) s) (GroupAsks k limit g0 z) (start none) (entry_at p last)) nested
+          (group_asks last within (rw (part last within) at sizes.tall_is) (omega (arith, sizes.low)) (rw (part last within) at sizes.widest_is) (inr (refl, omega arith)))
 
-  pub bound_asks : columns (take (last + 1) s) (GroupAsks kind limit g0 z) (start none) (entry_at p last)
-  bound_asks = group_asks s p a last within (rw first at sizes.tall_is) (omega (arith, sizes.low)) (rw first at sizes.widest_is) (inr (refl, omega arith))
+    module _ (b : Entry) (e : layout_in b ≡ columns (take (last + 1) s) (tried Nested limit g0) (start none) (entry_at p last)) where
+      best_is : layout_in b ≡ columns (take (last + 1) s) (tried kind limit g0) (start none) (entry_at p last)
+      best_is = subst (λ (k : Kind). layout_in b ≡ columns (take (last + 1) s) (tried k limit g0) (start none) (entry_at p last)) (sym nested) e
 
-module _ {kind : Kind} {limit g0 : ℕ} (s : List Piece) (p : List Entry) (a : extents p (columns s (FirstAsks kind limit g0))) (last : ℕ) (within : last < length s)
-    (b : Entry) (e : layout_in b ≡ columns (take (last + 1) s) (tried kind limit g0) (start none) (entry_at p last)) where
-  pub bound_under : {o : Outline} → outline_in (layout_in b) ≡ Some o → (r : Slices) → r.0 ≡ o.width.0 + 1 → Under kind limit g0 (stack_in s) (Some r)
-  bound_under {o} m r f =
-      let c = cond_some _ _ o m in
-      let w : o.width.0 ≡ b.width.0 = ap (λ (o : Outline). o.width.0) (sym c.1) in
-      let h : b.width.0 < none = ltb-true _ _ c.0 in
-      (omega arith, omega (arith, no_wider narrow))
-    where
-      narrow : NoWorse (layout_of kind limit g0 (stack_in s)) (layout_in b).width (layout_in b).height
-      narrow = no_worse_step (layout_of kind limit g0 (stack_in s)) _ _ unmet (layout_in b) e (candidate_same s p a last within) (best_bound kind limit g0 (stack_in s) last (omega (arith, stack_length s)))
+      pub bound_under : {o : Outline} → outline_in (layout_in b) ≡ Some o → (r : Slices) → r.0 ≡ o.width.0 + 1 → Under kind limit g0 (stack_in s) (Some r)
+      bound_under {o} m r f =
+          let c = cond_some _ _ o m in
+          let w : o.width.0 ≡ b.width.0 = ap (λ (o : Outline). o.width.0) (sym c.1) in
+          let h : b.width.0 < none = ltb-true _ _ c.0 in
+          (omega arith, omega (arith, no_wider narrow))
+        where
+          narrow : NoWorse (layout_of kind limit g0 (stack_in s)) (layout_in b).width (layout_in b).height
+          narrow = no_worse_step (layout_of kind limit g0 (stack_in s)) _ _ unmet (layout_in b) best_is (candidate_same last within) (best_bound kind limit g0 (stack_in s) last (omega (arith, stack_length s)))

@@ -1,6 +1,6 @@
 -- One group, tried as the first: each way in which trying it ends.
 use Prim.Native.Nat.{ℕ, ◌+◌, ◌*◌, ◌-◌, ◌≤◌, ◌<◌, min}
-use mathlib.Core.Path.{◌≡◌, sym, subst, ◌∙◌}
+use mathlib.Core.Path.{◌≡◌, sym, ap, subst, ◌∙◌}
 use mathlib.Core.Logic.{◌⊎◌, inl, inr}
 use mathlib.Core.List.{List, []}
 use mathlib.Core.Bool.{Bool, true, false, not}
@@ -147,6 +147,9 @@ module _ {limit g0 : ℕ} {z : Sizes} {hs ws gs : List ℕ} {best rest : Entry} 
             go : (w ≤ cap) ⊎ (cap < w) → (w ≤ cap) × (outline w (least_height Nested g0 (components_in hs ws gs) w) ≡ group)
             go (inl p) = (p, same_Some _ _ (sym (n.within p) ∙ f))
             go (inr p) = absurd (none-some group (sym (n.over p) ∙ f))
+
+        pub found_low : group.width.0 ≤ cap
+        found_low = omega (arith, found_is.0, ap (λ (o : Outline). o.width.0) found_is.1)
 
         pub folds_tried : (r : Layout) (end : ℕ) → rest.width.0 < none → end ≡ length hs → r ≡ choice (in_front group rest end) (layout_in best) → r ≡ tried Nested limit g0 hs ws gs best rest
         folds_tried r end o ee er =

@@ -1,2 +1,3 @@
 pub mod Asks
 pub mod Memory
+pub mod Left

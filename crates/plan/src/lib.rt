@@ -37,6 +37,16 @@ struct Asked {
     before: Rows,
 }
 
+// What is left of a stack behind some of its components, with the best layouts behind 1, 2, 3 and so on more of them, and what
+// is asked of its first group.
+#[derive(Clone, Copy)]
+struct Left<'a> {
+    ask: Asked,
+    stack: &'a [Piece],
+    later: &'a [Entry],
+    ghost first: { extents later.now (columns stack.now (FirstAsks ask.kind ask.limit.0 ask.before.0)) },
+}
+
 // The groups of a stack: as many as there are pairs of a first and a last component.
 const GROUPS: usize = MOST_NESTED * (MOST_NESTED + 1) / 2;
 
@@ -198,91 +208,81 @@ fn try_group(
     }
 }
 
-// A width that the best nested layout stays under: one more than that whose first group ends with the component at `last`, if
-// there is such a layout.
-fn bound_by(
-    ask: Asked,
-    last: usize,
-    stack: &[Piece],
-    later: &[Entry],
-    table: &mut [u32],
-    row: &mut [u32],
-) -> Option<Slices>
-    requires first_asks { extents later.now (columns stack.now (FirstAsks Nested ask.limit.0 ask.before.0)) }
-    requires row_asks { columns stack.now (RowAsks Nested ask.limit.0 ask.before.0) table.old row.old }
-    ensures under { Under Nested ask.limit.0 ask.before.0 (stack_in stack.now) result }
-    ensures row_done { columns stack.now (RowDone Nested ask.limit.0 ask.before.0) row.new }
-{
-    if stack.len() <= last || barred(stack, last) {
-        return None;
-    }
-    let group = &stack[..last + 1];
-    let sizes = sizes_of(group);
-    let b = try_folds(
-        ask,
-        sizes,
-        group,
-        Entry::UNMET,
-        &later[last],
-        table,
-        &mut row[last],
-    )?;
-    let o = b.outline()?;
-    Some(Slices(o.width.0 + 1))
-}
+impl Left<'_> {
+    ghost use Rattle.plan.specs.Left.{with_columns, with_components};
 
-// Apart no group is searched, so a bound would gain nothing. The match stands apart from `bound_by`: in it, the loop over apart
-// groups was compiled together with that over nested ones, and was a seventh slower.
-fn likely_bound(
-    ask: Asked,
-    last: usize,
-    stack: &[Piece],
-    later: &[Entry],
-    table: &mut [u32],
-    row: &mut [u32],
-) -> Option<Slices>
-    requires first_asks { extents later.now (columns stack.now (FirstAsks ask.kind ask.limit.0 ask.before.0)) }
-    requires row_asks { columns stack.now (RowAsks ask.kind ask.limit.0 ask.before.0) table.old row.old }
-    ensures under { Under ask.kind ask.limit.0 ask.before.0 (stack_in stack.now) result }
-    ensures row_done { columns stack.now (RowDone ask.kind ask.limit.0 ask.before.0) row.new }
-{
-    match ask.kind {
-        Kind::Apart => None,
-        Kind::Nested => bound_by(ask, last, stack, later, table, row),
-    }
-}
-
-// The best layout of what is left of a stack, from the best ones behind 1, 2, 3 and so on of its components. Groups that
-// are too tall end the search, and layouts as wide as a bound that the best one stays under are not searched for.
-fn first_group(
-    ask: Asked,
-    bound: Option<Slices>,
-    stack: &[Piece],
-    later: &[Entry],
-    table: &mut [u32],
-    row: &mut [u32],
-) -> Entry
-    requires first_asks { extents later.now (columns stack.now (FirstAsks ask.kind ask.limit.0 ask.before.0)) }
-    requires row_asks { columns stack.now (RowAsks ask.kind ask.limit.0 ask.before.0) table.old row.old }
-    requires under { Under ask.kind ask.limit.0 ask.before.0 (stack_in stack.now) bound }
-    ensures result_value { layout_in result ≡ layout_of ask.kind ask.limit.0 ask.before.0 (stack_in stack.now) }
-    ensures row_done { columns stack.now (RowDone ask.kind ask.limit.0 ask.before.0) row.new }
-{
-    let n = stack.len();
-    let most = most_rows(ask.kind, ask.limit);
-    let mut best = Entry {
-        width: bound.unwrap_or(Slices(NONE)),
-        ..Entry::UNMET
-    };
-    let mut sizes = Sizes::EMPTY;
-    for i in 0..n {
-        sizes = sizes.plus(&stack[i]);
-        if most < sizes.tall {
-            return best;
+    // A width that the best nested layout stays under: one more than that whose first group ends with the component at `last`,
+    // if there is such a layout.
+    fn bound_by(&self, last: usize, table: &mut [u32], row: &mut [u32]) -> Option<Slices>
+        requires nested { self.now.ask.kind ≡ Nested }
+        requires row_asks { with_columns self.now RowAsks table.old row.old }
+        ensures under { with_components self.now Under result }
+        ensures row_done { with_columns self.now RowDone row.new }
+    {
+        if self.stack.len() <= last || barred(self.stack, last) {
+            return None;
         }
-        best = try_group(ask, sizes, i, stack, best, &later[i], table, row).unwrap_or(best);
+        let group = &self.stack[..last + 1];
+        let sizes = sizes_of(group);
+        let b = try_folds(
+            self.ask,
+            sizes,
+            group,
+            Entry::UNMET,
+            &self.later[last],
+            table,
+            &mut row[last],
+        )?;
+        let o = b.outline()?;
+        Some(Slices(o.width.0 + 1))
     }
-    best
+
+    // Apart no group is searched, so a bound would gain nothing. The match stands apart from `bound_by`: in it, the loop over
+    // apart groups was compiled together with that over nested ones, and was a seventh slower.
+    fn likely_bound(&self, last: usize, table: &mut [u32], row: &mut [u32]) -> Option<Slices>
+        requires row_asks { with_columns self.now RowAsks table.old row.old }
+        ensures under { with_components self.now Under result }
+        ensures row_done { with_columns self.now RowDone row.new }
+    {
+        match self.ask.kind {
+            Kind::Apart => None,
+            Kind::Nested => self.bound_by(last, table, row),
+        }
+    }
+
+    // The best layout of what is left of a stack, from the best ones behind 1, 2, 3 and so on of its components. Groups that
+    // are too tall end the search, and layouts as wide as a bound that the best one stays under are not searched for.
+    fn first_group(&self, bound: Option<Slices>, table: &mut [u32], row: &mut [u32]) -> Entry
+        requires row_asks { with_columns self.now RowAsks table.old row.old }
+        requires under { with_components self.now Under bound }
+        ensures result_value { layout_in result ≡ with_components self.now layout_of }
+        ensures row_done { with_columns self.now RowDone row.new }
+    {
+        let most = most_rows(self.ask.kind, self.ask.limit);
+        let mut best = Entry {
+            width: bound.unwrap_or(Slices(NONE)),
+            ..Entry::UNMET
+        };
+        let mut sizes = Sizes::EMPTY;
+        for i in 0..self.stack.len() {
+            sizes = sizes.plus(&self.stack[i]);
+            if most < sizes.tall {
+                return best;
+            }
+            best = try_group(
+                self.ask,
+                sizes,
+                i,
+                self.stack,
+                best,
+                &self.later[i],
+                table,
+                row,
+            )
+            .unwrap_or(best);
+        }
+        best
+    }
 }
 
 fn gap_before(stack: &[Piece], i: usize) -> Rows
@@ -319,10 +319,13 @@ fn best_from(
         before: gap_before(stack, i),
     };
     let next = i + 1;
-    let rest = &stack[i..];
-    let later = &plan[next..];
-    let bound = likely_bound(ask, plan[next].end, rest, later, table, row);
-    first_group(ask, bound, rest, later, table, row)
+    let left = Left {
+        ask,
+        stack: &stack[i..],
+        later: &plan[next..],
+    };
+    let bound = left.likely_bound(plan[next].end, table, row);
+    left.first_group(bound, table, row)
 }
 
 // What planning takes of a work buffer.

@@ -1,11 +1,11 @@
 -- The ways in which reading ends.
-use Prim.Native.Nat.{ℕ, ◌≤◌, ◌<◌, min}
+use Prim.Native.Nat.{ℕ, ◌≤◌}
 use mathlib.Core.Path.{◌≡◌, refl, sym, ap, ◌∙◌}
 use mathlib.Core.List.{List, map}
 use native.Mathlib.Omega.{arith}
 use lib.ListN.{length}
 use lib.Dec.{ltb}
-use borrow.Author.Tests.{lt-ltb, le-ltb}
+use borrow.Author.Tests.{le-ltb}
 use Rattle.terms.specs.declared.Component.{Component}
 use Rattle.terms.specs.declared.Kind.{Kind}
 use Rattle.terms.specs.declared.Kind.TheVariants.{Apart}
@@ -18,7 +18,7 @@ use Rattle.terms.proofs.Pieces.{heights_packed, widths_packed, seams_packed, unp
 use Rattle.std.proofs.lemmas.List.{length-map}
 use Rattle.terms.proofs.Answers.{counted, uncounted, went_on, result_same, most_256}
 use Rattle.stack.specs.File.{components_of, check_of}
-use Rattle.stack.specs.Calls.{read_of, read_into, read_all, Read, pieces_of}
+use Rattle.stack.specs.Calls.{read_of, read_into, least_length, Read, pieces_of}
 use Rattle.stack.specs.Inner.{Pieced, column_into, Fillable, Filled}
 use Rattle.stack.proofs.Valid.{Valid, valid}
 use Rattle.stack.proofs.Columns.{counts, column-map, mark_fits}
@@ -32,9 +32,6 @@ module _ (kind : Kind) (file : List ℕ) {n : ℕ} (e : count_of (check_of kind 
 
   stands : Valid kind file (components_of file n)
   stands = valid kind file (components_of file n) is
-
-  too_short : (room : ℕ) → room < n → read_of kind file room ≡ refusal 8
-  too_short room h = rw (is, counts file n, lt-ltb _ _ h)
 
   enough : (room : ℕ) → n ≤ room → read_of kind file room ≡ result (components_of file n)
   enough room h = rw (is, counts file n, le-ltb _ _ h)
@@ -57,40 +54,25 @@ module _ (kind : Kind) (file : List ℕ) {n : ℕ} (e : count_of (check_of kind 
   pub pieced : {room room' : List Piece} → n ≤ length room → room' ≡ column_into piece_of file n room → Pieced kind file room (result n) room'
   pieced {room} {room'} h k = record { answers = answered (length room) h; pieces_hold = column piece_of room room' (length room) h k }
 
+-- A refusal leaves the list of pieces as it was.
 module _ (kind : Kind) (file : List ℕ) (room : List Piece) where
-  refused : (k : ℕ) → read_of kind file (length room) ≡ refusal k → Pieced kind file room (refusal k) room
+  pub refused : (k : ℕ) → read_of kind file (length room) ≡ refusal k → Pieced kind file room (refusal k) room
   refused k e = record { answers = rw e; pieces_hold = rw e }
 
-  pub by_check : (k : ℕ) → count_of (check_of kind file) ≡ refusal k → Pieced kind file room (refusal k) room
-  by_check k e = refused k (rw (uncounted (check_of kind file) k e))
-
-  pub short : {n : ℕ} → count_of (check_of kind file) ≡ result n → length room < n → Pieced kind file room (refusal 8) room
-  short e h = refused 8 (too_short kind file e _ h)
-
 -- Reading into four lists.
-module _ (file heights widths gaps marks : List ℕ) where
-  refused_all : (k : ℕ) → read_all file heights widths gaps marks ≡ refusal k → Read file heights widths gaps marks (refusal k) heights widths gaps marks
-  refused_all k e = record { answers = rw e; heights_hold = rw e; widths_hold = rw e; gaps_hold = rw e; marks_hold = rw e }
+module _ (file heights widths gaps marks : List ℕ) {n : ℕ} (e : count_of (check_of Apart file) ≡ result n) where
+  abbrev room : ℕ
+  room = least_length heights widths gaps marks
 
-  pub all_by_check : (k : ℕ) → count_of (check_of Apart file) ≡ refusal k → Read file heights widths gaps marks (refusal k) heights widths gaps marks
-  all_by_check k e = refused_all k (rw (uncounted (check_of Apart file) k e))
-
-  module _ {n : ℕ} (e : count_of (check_of Apart file) ≡ result n) where
-    abbrev room : ℕ
-    room = min (min (length heights) (length widths)) (min (length gaps) (length marks))
-
-    pub all_short : room < n → Read file heights widths gaps marks (refusal 8) heights widths gaps marks
-    all_short h = refused_all 8 (too_short Apart file e room h)
-
-    pub all_read : {heights' widths' gaps' marks' : List ℕ} → n ≤ room → Filled file n heights widths gaps marks heights' widths' gaps' marks'
-        → Read file heights widths gaps marks (result n) heights' widths' gaps' marks'
-    all_read {heights'} {widths'} {gaps'} {marks'} h f = record {
-      answers = answered Apart file e room h;
-      heights_hold = column Apart file e (λ c. c.height.0) heights heights' room h f.heights_hold;
-      widths_hold = column Apart file e (λ c. c.width.0) widths widths' room h f.widths_hold;
-      gaps_hold = column Apart file e (λ c. c.gap.0) gaps gaps' room h f.gaps_hold;
-      marks_hold = column Apart file e (λ c. c.mark) marks marks' room h f.marks_hold;
-    }
+  pub all_read : {heights' widths' gaps' marks' : List ℕ} → n ≤ room → Filled file n heights widths gaps marks heights' widths' gaps' marks'
+      → Read file heights widths gaps marks (result n) heights' widths' gaps' marks'
+  all_read {heights'} {widths'} {gaps'} {marks'} h f = record {
+    answers = answered Apart file e room h;
+    heights_hold = column Apart file e (λ c. c.height.0) heights heights' room h f.heights_hold;
+    widths_hold = column Apart file e (λ c. c.width.0) widths widths' room h f.widths_hold;
+    gaps_hold = column Apart file e (λ c. c.gap.0) gaps gaps' room h f.gaps_hold;
+    marks_hold = column Apart file e (λ c. c.mark) marks marks' room h f.marks_hold;
+  }
 
 -- A list of 256 pieces is always long enough.
 module _ (kind : Kind) (file : List ℕ) (room : List Piece) (h : length room ≡ 256) where

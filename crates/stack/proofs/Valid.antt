@@ -11,7 +11,7 @@ use borrow.Author.Tests.{eqb-true, not-false}
 use Rattle.terms.specs.declared.Component.{Component}
 use Rattle.terms.specs.declared.Kind.{Kind}
 use Rattle.terms.specs.Answer.{result}
-use Rattle.terms.specs.Component.{most_of, stack_of, count_of}
+use Rattle.terms.specs.Component.{most_of, stack_of}
 use Rattle.terms.proofs.Bools.{one_of}
 use Rattle.terms.proofs.Tabulate.{tabulate-length}
 use Rattle.terms.proofs.Answers.{passed, went_on, result_same, Stack, stack_is}
@@ -57,10 +57,6 @@ valid kind file cs e =
     let b = stack_is (most_of kind) (components_of file a.0) cs a.2 in
     let m : a.0 ≡ length cs = sym (tabulate-length (component_at file) a.0) ∙ ap length b.0 in
     record { header = rw m at (header_is file a.0 a.1); components = rw m at b.0; stack = b.1 }
-
--- A file whose components were checked, behind its header.
-pub accepted : (kind : Kind) (file g : List ℕ) (n m : ℕ) → result n ≡ header_of file → g ≡ file → m ≡ n → result m ≡ count_of (stack_of (most_of kind) (components_of g n)) → result n ≡ count_of (check_of kind file)
-accepted kind file g n m h e l k = rw (← h, ← e) (ap result (sym l) ∙ k)
 
 -- The bytes of a component before the n-th stand in the file.
 pub within : (file : List ℕ) (n i : ℕ) → 7 + bytes_each (version_of file) * n ≤ length file → i < n → Within file i

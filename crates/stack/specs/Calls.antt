@@ -23,9 +23,13 @@ read_into (result cs) part old = map part cs ++ drop (length cs) old
 abbrev pub pieces_of : Kind → List ℕ → Answer (List Piece)
 pieces_of kind file = and_then (check_of kind file) (λ cs. result (map piece_of cs))
 
+-- The length of the shortest of four lists.
+abbrev pub least_length : List ℕ → List ℕ → List ℕ → List ℕ → ℕ
+least_length heights widths gaps marks = min (min (length heights) (length widths)) (min (length gaps) (length marks))
+
 -- Reading into four lists. Ticket 3: "one too short for its result is 8".
 abbrev pub read_all : List ℕ → List ℕ → List ℕ → List ℕ → List ℕ → Answer (List Component)
-read_all file heights widths gaps marks = read_of Apart file (min (min (length heights) (length widths)) (min (length gaps) (length marks)))
+read_all file heights widths gaps marks = read_of Apart file (least_length heights widths gaps marks)
 
 -- Its answer, and what the four lists hold afterwards. Ticket 3: "Reading fills a fourth list with the marks".
 pub record Read (file heights widths gaps marks : List ℕ) (answer : Answer ℕ) (heights' widths' gaps' marks' : List ℕ) : Type 0 where

@@ -1,6 +1,6 @@
 -- What the functions inside this crate promise each other, and what `read_pieces` promises. Nothing here is part of a promise
 -- to a caller of C or Rust.
-use Rattle.std.specs.Prelude.{ℕ, ◌+◌, ◌*◌, ◌≤◌, ◌<◌, ◌≡◌, min, List, [], ◌∷◌, ◌++◌, length, drop}
+use Rattle.std.specs.Prelude.{ℕ, ◌+◌, ◌*◌, ◌≤◌, ◌<◌, ◌≡◌, List, [], ◌∷◌, ◌++◌, length, drop}
 use Rattle.terms.specs.Numbers.{most_apart}
 use Rattle.terms.specs.declared.Component.{Component}
 use Rattle.terms.specs.declared.Kind.{Kind}
@@ -36,10 +36,6 @@ pub record Fillable (file : List ℕ) (n room : ℕ) : Type 0 where
   pub few : n ≤ most_apart
   pub fits : n ≤ room
   pub marked : (i : ℕ) → i < n → (component_at file i).mark ≤ 1
-
--- The length of the shortest of four lists.
-abbrev pub least_length : List ℕ → List ℕ → List ℕ → List ℕ → ℕ
-least_length heights widths gaps marks = min (min (length heights) (length widths)) (min (length gaps) (length marks))
 
 pub record Filled (file : List ℕ) (n : ℕ) (heights widths gaps marks heights' widths' gaps' marks' : List ℕ) : Type 0 where
   pub heights_hold : heights' ≡ column_into (λ c. c.height.0) file n heights

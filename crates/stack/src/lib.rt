@@ -10,8 +10,8 @@ ghost use Rattle.terms.specs.declared.Piece.{Piece};
 ghost use Rattle.terms.specs.Pieces.{piece_of};
 ghost use Rattle.stack.specs.File.{word_at, version_of, bytes_each, component_from, component_at, header_of, check_of};
 ghost use Rattle.stack.specs.Versions.{number_in, version_from};
-ghost use Rattle.stack.specs.Calls.{Read, place_at, place_of, lookup_of, pieces_of};
-ghost use Rattle.stack.specs.Inner.{mapped, words_of, Pieced, Fillable, Filled, least_length, column_into};
+ghost use Rattle.stack.specs.Calls.{Read, place_at, place_of, lookup_of, pieces_of, least_length};
+ghost use Rattle.stack.specs.Inner.{mapped, words_of, Pieced, Fillable, Filled, column_into};
 
 use std::marker::Model;
 use std::ops::Range;
@@ -354,7 +354,7 @@ pub fn place(file: &[u8], number: usize) -> Option<Range<usize>>
     ensures in_file { IfSome result (λ at. at.end ≤ length file.now) }
 {
     match checked(file, Kind::Apart) {
-        Ok(f) if 1 <= number && number <= f.n => Some(f.bytes(number - 1)),
+        Ok(f) if (1..=f.n).contains(&number) => Some(f.bytes(number - 1)),
         _ => None,
     }
 }

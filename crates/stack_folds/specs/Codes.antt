@@ -1,6 +1,7 @@
 -- Answers in numbers, as C and Rust receive them. A refusal is its number, 1 to 11; a result has the refusal 0. So the two
 -- cannot be confused.
 use Rattle.std.specs.Prelude.{ℕ, ◌+◌, ◌-◌, ◌*◌, ◌≡◌, List, [], Bool, true, false, Option, Some, None, cond, ◌&&◌, length, take, leb, eqb}
+use Rattle.std.specs.declared.ops.Range.{Range}
 use Rattle.terms.specs.declared.Component.{Component}
 use Rattle.terms.specs.declared.Kind.{Kind}
 use Rattle.terms.specs.declared.Kind.TheVariants.{Apart, Nested}
@@ -41,6 +42,10 @@ PlainCount c = c ≡ count_code (count_of_code c)
 
 abbrev pub PlainOutline : Extent → Type 0
 PlainOutline e = e ≡ outline_code (outline_of_code e)
+
+-- A part of a buffer, as a start and a length.
+abbrev pub range_code : Range ℕ → Part
+range_code at = record { start = at.start; length = at.end - at.start }
 
 -- The bytes of one component of a stack file, as a start and a length; the empty part starts at 0.
 abbrev pub part_code : Answer (List Component) → List ℕ → ℕ → Part

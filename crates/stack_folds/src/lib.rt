@@ -12,10 +12,11 @@ ghost use Rattle.folding.specs.Calls.{measure_of, winner_is, choose_of};
 ghost use Rattle.fold.specs.Calls.{ToHeight, ToWidth};
 ghost use Rattle.fold_area.specs.Calls.{SmallestOf};
 ghost use Rattle.fold_table.specs.Calls.{TableOf};
-ghost use Rattle.stack_folds.specs.Codes.{kind_of, count_code, outline_code, part_code, choice_code, chosen_part};
+ghost use Rattle.stack_folds.specs.Codes.{kind_of, count_code, outline_code, range_code, part_code, choice_code, chosen_part};
 ghost use Rattle.stack_folds.specs.Codes.{count_of_code, outline_of_code, PlainCount, PlainOutline};
 
 use folding::{Outline, Winner};
+use std::ops::Range;
 use terms::{Kind, Refusal, Rows, Slices};
 
 // A refusal and 0, or 0 and a number of components, bytes or pairs.
@@ -85,6 +86,17 @@ impl From<Result<Outline, Refusal>> for Extent {
     }
 }
 
+impl From<Range<usize>> for Part {
+    ghost from_gives = { λ at part. part ≡ range_code at };
+
+    fn from(at: Range<usize>) -> Part {
+        Part {
+            start: at.start,
+            length: at.len(),
+        }
+    }
+}
+
 pub fn folds_check(file: &[u8], nested: bool) -> Count
     ensures { result ≡ count_code (count_of (check_of (kind_of nested) file.now)) }
 {
@@ -110,16 +122,7 @@ pub fn folds_lookup(file: &[u8], number: usize) -> Part
     ensures value { result ≡ part_code (check_of Apart file.now) file.now number }
     ensures file_value { take result.length (drop result.start file.now) ≡ lookup_of file.now number }
 {
-    match stack::place(file, number) {
-        Some(at) => Part {
-            start: at.start,
-            length: at.end - at.start,
-        },
-        None => Part {
-            start: 0,
-            length: 0,
-        },
-    }
+    stack::place(file, number).unwrap_or(0..0).into()
 }
 
 pub fn folds_write(

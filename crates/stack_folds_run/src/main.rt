@@ -5,7 +5,7 @@ use stack_folds::{
     Count, Extent, Part, folds_check, folds_choose, folds_lookup, folds_measure, folds_read,
     folds_smallest_area, folds_table, folds_to_height, folds_to_width, folds_write,
 };
-use std::fmt::Display;
+use std::fmt;
 use std::io::{self, BufWriter, Write};
 use terms::LEAST_WORK;
 
@@ -28,20 +28,57 @@ const FLAT: [u32; 12] = [0, 0, 3, 0, 0, 2, 0, 0, 1, 0, 0, 0];
 
 const FOLDED: [u32; 12] = [0, 0, 1, 0, 0, 0, 0, 1, 0, 0, 1, 2];
 
+// A file, whether it is folded nested, and what its lines begin with.
+#[derive(Clone, Copy, Debug, PartialEq, Eq)]
+struct Stack<'a> {
+    label: &'a str,
+    file: &'a [u8],
+    nested: bool,
+}
+
+// Two stacks in both kinds.
+const STACKS: [Stack; 4] = [
+    Stack {
+        label: "apart",
+        file: &E,
+        nested: false,
+    },
+    Stack {
+        label: "nested",
+        file: &E,
+        nested: true,
+    },
+    Stack {
+        label: "barred apart",
+        file: &BARRED,
+        nested: false,
+    },
+    Stack {
+        label: "barred nested",
+        file: &BARRED,
+        nested: true,
+    },
+];
+
+// Numbers as they are printed, each behind a blank.
+#[derive(Clone, Copy, Debug, PartialEq, Eq)]
+struct Spaced<'a, T>(&'a [T]);
+
+impl<T: fmt::Display> fmt::Display for Spaced<'_, T> {
+    fn fmt<W: fmt::Write>(&self, f: &mut fmt::Formatter<W>) -> fmt::Result {
+        for x in self.0 {
+            write!(f, " {x}")?;
+        }
+        Ok(())
+    }
+}
+
 fn say_count(out: &mut impl Write, label: &str, c: Count) -> io::Result<()> {
     writeln!(out, "{label} {} {}", c.refusal, c.count)
 }
 
 fn say_extent(out: &mut impl Write, label: &str, call: &str, e: Extent) -> io::Result<()> {
     writeln!(out, "{label} {call} {} {} {}", e.refusal, e.width, e.height)
-}
-
-fn say_list(out: &mut impl Write, label: &str, list: &[impl Display]) -> io::Result<()> {
-    write!(out, "{label}")?;
-    for x in list {
-        write!(out, " {x}")?;
-    }
-    writeln!(out)
 }
 
 fn lookup_case(out: &mut impl Write, label: &str, file: &[u8], number: usize) -> io::Result<()> {
@@ -78,10 +115,10 @@ fn list_cases(out: &mut impl Write, file: &[u8], written: &mut [u8]) -> io::Resu
         "read",
         folds_read(file, &mut h, &mut w, &mut g, &mut m),
     )?;
-    say_list(out, "heights", &h)?;
-    say_list(out, "widths", &w)?;
-    say_list(out, "gaps", &g)?;
-    say_list(out, "marks", &m)?;
+    writeln!(out, "heights{}", Spaced(&h))?;
+    writeln!(out, "widths{}", Spaced(&w))?;
+    writeln!(out, "gaps{}", Spaced(&g))?;
+    writeln!(out, "marks{}", Spaced(&m))?;
     say_count(out, "write", folds_write(&h, &w, &g, &m, written))
 }
 
@@ -136,25 +173,33 @@ fn barred_cases(out: &mut impl Write) -> io::Result<()> {
     writeln!(out, "barred choose neither {neither}")
 }
 
-fn fold_cases(out: &mut impl Write, label: &str, file: &[u8], nested: bool) -> io::Result<()> {
-    let mut placements = [0u32; 12];
-    let mut work = [0u32; LEAST_WORK];
-    let low = folds_to_height(file, nested, 2, &mut placements, &mut work);
-    say_extent(out, label, "to height 2", low)?;
-    let three = folds_to_width(file, nested, 3, &mut placements, &mut work);
-    say_extent(out, label, "to width 3", three)?;
-    let two = folds_to_width(file, nested, 2, &mut placements, &mut work);
-    say_extent(out, label, "to width 2", two)?;
-    let smallest = folds_smallest_area(file, nested, &mut placements, &mut work);
-    say_extent(out, label, "smallest area", smallest)
-}
+impl Stack<'_> {
+    fn fold_cases(self, out: &mut impl Write) -> io::Result<()> {
+        let Stack {
+            label,
+            file,
+            nested,
+        } = self;
+        let mut placements = [0u32; 12];
+        let mut work = [0u32; LEAST_WORK];
+        let low = folds_to_height(file, nested, 2, &mut placements, &mut work);
+        say_extent(out, label, "to height 2", low)?;
+        let three = folds_to_width(file, nested, 3, &mut placements, &mut work);
+        say_extent(out, label, "to width 3", three)?;
+        let two = folds_to_width(file, nested, 2, &mut placements, &mut work);
+        say_extent(out, label, "to width 2", two)?;
+        let smallest = folds_smallest_area(file, nested, &mut placements, &mut work);
+        say_extent(out, label, "smallest area", smallest)
+    }
 
-// Three pairs, and what the fourth place held before.
-fn table_case(out: &mut impl Write, label: &str, file: &[u8], nested: bool) -> io::Result<()> {
-    let mut pairs = [9u32; 8];
-    let mut work = [0u32; LEAST_WORK];
-    say_count(out, label, folds_table(file, nested, &mut pairs, &mut work))?;
-    say_list(out, "", &pairs)
+    // Three pairs, and what the fourth place held before.
+    fn table_case(self, out: &mut impl Write) -> io::Result<()> {
+        let mut pairs = [9u32; 8];
+        let mut work = [0u32; LEAST_WORK];
+        let Count { refusal, count } = folds_table(self.file, self.nested, &mut pairs, &mut work);
+        writeln!(out, "{} table {refusal} {count}", self.label)?;
+        writeln!(out, "{}", Spaced(&pairs))
+    }
 }
 
 fn main(rt: HostRuntime) -> io::Result<()> {
@@ -164,13 +209,11 @@ fn main(rt: HostRuntime) -> io::Result<()> {
     file_twice(&mut out, &BARRED)?;
     placement_cases(&mut out)?;
     barred_cases(&mut out)?;
-    fold_cases(&mut out, "apart", &E, false)?;
-    fold_cases(&mut out, "nested", &E, true)?;
-    fold_cases(&mut out, "barred apart", &BARRED, false)?;
-    fold_cases(&mut out, "barred nested", &BARRED, true)?;
-    table_case(&mut out, "apart table", &E, false)?;
-    table_case(&mut out, "nested table", &E, true)?;
-    table_case(&mut out, "barred apart table", &BARRED, false)?;
-    table_case(&mut out, "barred nested table", &BARRED, true)?;
+    for stack in STACKS {
+        stack.fold_cases(&mut out)?;
+    }
+    for stack in STACKS {
+        stack.table_case(&mut out)?;
+    }
     out.flush()
 }

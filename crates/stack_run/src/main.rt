@@ -3,6 +3,7 @@
 
 ghost use Rattle.std.specs.Prelude.{◌≤◌};
 
+use stack::Version;
 use std::alloc::{AllocError, Global};
 use std::fmt;
 use std::io::{self, BufWriter, Write};
@@ -27,6 +28,19 @@ impl fmt::Display for Answer {
     }
 }
 
+// Numbers as they are printed, each behind a blank.
+#[derive(Clone, Copy, Debug, PartialEq, Eq)]
+struct Spaced<'a, T>(&'a [T]);
+
+impl<T: fmt::Display> fmt::Display for Spaced<'_, T> {
+    fn fmt<W: fmt::Write>(&self, f: &mut fmt::Formatter<W>) -> fmt::Result {
+        for x in self.0 {
+            write!(f, " {x}")?;
+        }
+        Ok(())
+    }
+}
+
 // The four lists of a stack.
 #[derive(Clone, Copy, Debug, PartialEq, Eq)]
 struct Lists<'a> {
@@ -39,6 +53,15 @@ struct Lists<'a> {
 impl Lists<'_> {
     fn write(self, file: &mut [u8]) -> Result<usize, Refusal> {
         stack_write::write(self.heights, self.widths, self.gaps, self.marks, file)
+    }
+}
+
+// The numbers of one list behind those of another.
+impl fmt::Display for Lists<'_> {
+    fn fmt<W: fmt::Write>(&self, f: &mut fmt::Formatter<W>) -> fmt::Result {
+        let (heights, widths) = (Spaced(self.heights), Spaced(self.widths));
+        let (gaps, marks) = (Spaced(self.gaps), Spaced(self.marks));
+        write!(f, "{heights}{widths}{gaps}{marks}")
     }
 }
 
@@ -87,7 +110,7 @@ impl Room {
 #[derive(Clone, Copy, Debug, PartialEq, Eq)]
 struct Form<'a> {
     label: &'a str,
-    version: u16,
+    version: Version,
     component: &'a [u8],
 }
 
@@ -95,7 +118,7 @@ impl Form<'_> {
     // A file of n components.
     fn file(self, alloc: Global, n: u16) -> Result<Vec<u8>, AllocError> {
         let mut file = vec![in alloc; b'S', b'T', b'K']?;
-        file.extend_from_slice(&self.version.to_le_bytes())?;
+        file.extend_from_slice(&u16::from(self.version).to_le_bytes())?;
         file.extend_from_slice(&n.to_le_bytes())?;
         for _ in 0..n {
             file.extend_from_slice(self.component)?;
@@ -155,12 +178,12 @@ fn form_cases(out: &mut impl Write, alloc: Global, form: Form) -> io::Result<()>
 fn count_cases(out: &mut impl Write, alloc: Global) -> io::Result<()> {
     let plain = Form {
         label: "",
-        version: 1,
+        version: Version::First,
         component: &[1, 0, 1, 0, 0, 0],
     };
     let marked = Form {
         label: "version 2, ",
-        version: 2,
+        version: Version::Second,
         component: &[1, 0, 1, 0, 0, 0, 0, 0],
     };
     let short = Form {
@@ -286,13 +309,6 @@ fn marked_prefix_cases(out: &mut impl Write, alloc: Global) -> io::Result<()> {
     Ok(())
 }
 
-fn say(out: &mut impl Write, numbers: &[impl fmt::Display]) -> io::Result<()> {
-    for x in numbers {
-        write!(out, " {x}")?;
-    }
-    Ok(())
-}
-
 // The file read into lists of these lengths.
 fn read_case(
     out: &mut impl Write,
@@ -302,13 +318,8 @@ fn read_case(
     lengths: [usize; 4],
 ) -> io::Result<()> {
     let mut room = Room::new(alloc, lengths)?;
-    let answer = room.read(file);
-    write!(out, "{label}")?;
-    say(out, &room.heights)?;
-    say(out, &room.widths)?;
-    say(out, &room.gaps)?;
-    say(out, &room.marks)?;
-    writeln!(out, " {}", Answer(answer))
+    let answer = Answer(room.read(file));
+    writeln!(out, "{label}{} {answer}", room.lists())
 }
 
 // A list that is one entry short.
@@ -327,9 +338,8 @@ fn short_cases(out: &mut impl Write, alloc: Global, file: &[u8]) -> io::Result<(
 // The bytes of a component by its number.
 fn lookup_cases(out: &mut impl Write, file: &[u8]) -> io::Result<()> {
     for number in 0..4 {
-        write!(out, "lookup {number}:")?;
-        say(out, stack::lookup(file, number))?;
-        writeln!(out)?;
+        let bytes = Spaced(stack::lookup(file, number));
+        writeln!(out, "lookup {number}:{bytes}")?;
     }
     Ok(())
 }
@@ -346,9 +356,8 @@ fn bad_mark_cases(out: &mut impl Write, alloc: Global) -> io::Result<()> {
     read_case(out, alloc, "read, last mark 1", &file, [3, 2, 4, 3])?;
     let label = "read, last mark 1 and short lists";
     read_case(out, alloc, label, &file, [2, 2, 1, 0])?;
-    write!(out, "lookup 1, last mark 1:")?;
-    say(out, stack::lookup(&file, 1))?;
-    writeln!(out)
+    let bytes = Spaced(stack::lookup(&file, 1));
+    writeln!(out, "lookup 1, last mark 1:{bytes}")
 }
 
 // The lists written to the first bytes of a buffer of nines: how many bytes are other than 9 then, and the answer.
@@ -434,11 +443,9 @@ fn rewritten(out: &mut impl Write, alloc: Global, label: &str, file: &[u8]) -> i
     let mut room = Room::new(alloc, [2; 4])?;
     writeln!(out, "{label} read {}", Answer(room.read(file)))?;
     let mut again = [0u8; 23];
-    let answer = room.lists().write(&mut again);
-    write!(out, "{label} rewritten")?;
-    say(out, &again)?;
-    writeln!(out)?;
-    writeln!(out, "{}", Answer(answer))
+    let answer = Answer(room.lists().write(&mut again));
+    writeln!(out, "{label} rewritten{}", Spaced(&again))?;
+    writeln!(out, "{answer}")
 }
 
 // 1, 1 + step, 1 + 2 step, .., up to 4,000 and round again.

@@ -10,14 +10,14 @@ use borrow.Author.Tests.{le-ltb, eq-eqb}
 use borrow.Rule.Slice.PartMut.{put_mid}
 use Rattle.terms.specs.declared.Component.{Component}
 use Rattle.terms.specs.declared.Kind.TheVariants.{Apart}
-use Rattle.terms.specs.Answer.{refusal, result}
+use Rattle.terms.specs.Answer.{result}
 use Rattle.terms.specs.Component.{tabulate, stack_of, most_of, count_of}
 use Rattle.stack_write.specs.File.{bytes_of, headed, file_of}
 use Rattle.stack_write.specs.Call.{entry_at, entries_of, write_of, Wrote}
 use Rattle.stack_write.specs.Inner.{Lists}
 use Rattle.terms.proofs.Tabulate.{tabulate-length}
 use Rattle.terms.proofs.Parts.{from, back}
-use Rattle.terms.proofs.Answers.{counted, uncounted, stack_is}
+use Rattle.terms.proofs.Answers.{counted, stack_is}
 use Rattle.stack_write.proofs.RoundTrip.{bytes-length, file_length, one_file}
 
 bytes-append : (cs ds : List Component) → bytes_of (cs ++ ds) ≡ bytes_of cs ++ bytes_of ds
@@ -77,27 +77,21 @@ module _ (heights widths gaps marks : List ℕ) {n : ℕ} (e : count_of (stack_o
 pub equal : {heights widths gaps marks : List ℕ} → length widths ≡ length heights → length gaps ≡ length heights → length marks ≡ length heights → Lists heights widths gaps marks
 equal w g m = record { widths_long = w; gaps_long = g; marks_long = m }
 
-module _ (heights widths gaps marks out : List ℕ) where
-  refused : (k : ℕ) → write_of heights widths gaps marks (length out) ≡ refusal k → Wrote heights widths gaps marks out (refusal k) out
-  refused k e = record { answers = rw e; holds = rw e; reads_back = rw e tt }
-
-  module _ (s : Lists heights widths gaps marks) where
-    pub by_check : (k : ℕ) → count_of (stack_of (most_of Apart) (entries_of heights widths gaps marks)) ≡ refusal k → Wrote heights widths gaps marks out (refusal k) out
-    by_check k e = refused k (rw (eq-eqb _ _ s.widths_long, eq-eqb _ _ s.gaps_long, eq-eqb _ _ s.marks_long, uncounted (stack_of (most_of Apart) (entries_of heights widths gaps marks)) k e))
-
-    module _ {n : ℕ} (e : count_of (stack_of (most_of Apart) (entries_of heights widths gaps marks)) ≡ result n) where
-      pub wrote : (p last : List ℕ) → 7 + 8 * n ≤ length out → length p ≡ length out
-          → p ≡ headed n (drop 7 out)
-          → last ≡ bytes_of (entries_of heights widths gaps marks) ++ drop (8 * length heights) (take (length p - 7) (drop 7 p))
-          → Wrote heights widths gaps marks out (result (7 + 8 * n)) (put_mid 7 (length p - 7) p last)
-      wrote p last h m k l =
-          let a : write_of heights widths gaps marks (length out) ≡ result (entries_of heights widths gaps marks) = rw (eq-eqb _ _ s.widths_long, eq-eqb _ _ s.gaps_long, eq-eqb _ _ s.marks_long, is heights widths gaps marks e, counted_as heights widths gaps marks e, le-ltb _ _ h) in
-          let f : put_mid 7 (length p - 7) p last ≡ file_of (entries_of heights widths gaps marks) ++ drop (7 + 8 * n) out = whole (entries_of heights widths gaps marks) out p last n (counted_as heights widths gaps marks e) (omega arith) k (rw (← long heights widths gaps marks e) l) in
-          let g : put_mid 7 (length p - 7) p last ≡ file_of (entries_of heights widths gaps marks) ++ drop (7 + 8 * length (entries_of heights widths gaps marks)) out = f ∙ rw (counted_as heights widths gaps marks e) in
-          record {
-            answers = rw (a, counted_as heights widths gaps marks e);
-            holds = rw a g;
-            reads_back =
-                rw (a, g, take_at (file_of (entries_of heights widths gaps marks)) (drop (7 + 8 * length (entries_of heights widths gaps marks)) out) (7 + 8 * length (entries_of heights widths gaps marks)) (file_length (entries_of heights widths gaps marks)))
-                (one_file heights widths gaps marks s (is heights widths gaps marks e));
-          }
+-- The lists' file, written.
+module _ (heights widths gaps marks out : List ℕ) (s : Lists heights widths gaps marks) {n : ℕ}
+    (e : count_of (stack_of (most_of Apart) (entries_of heights widths gaps marks)) ≡ result n) where
+  pub wrote : (p last : List ℕ) → 7 + 8 * n ≤ length out → length p ≡ length out
+      → p ≡ headed n (drop 7 out)
+      → last ≡ bytes_of (entries_of heights widths gaps marks) ++ drop (8 * length heights) (take (length p - 7) (drop 7 p))
+      → Wrote heights widths gaps marks out (result (7 + 8 * n)) (put_mid 7 (length p - 7) p last)
+  wrote p last h m k l =
+      let a : write_of heights widths gaps marks (length out) ≡ result (entries_of heights widths gaps marks) = rw (eq-eqb _ _ s.widths_long, eq-eqb _ _ s.gaps_long, eq-eqb _ _ s.marks_long, is heights widths gaps marks e, counted_as heights widths gaps marks e, le-ltb _ _ h) in
+      let f : put_mid 7 (length p - 7) p last ≡ file_of (entries_of heights widths gaps marks) ++ drop (7 + 8 * n) out = whole (entries_of heights widths gaps marks) out p last n (counted_as heights widths gaps marks e) (omega arith) k (rw (← long heights widths gaps marks e) l) in
+      let g : put_mid 7 (length p - 7) p last ≡ file_of (entries_of heights widths gaps marks) ++ drop (7 + 8 * length (entries_of heights widths gaps marks)) out = f ∙ rw (counted_as heights widths gaps marks e) in
+      record {
+        answers = rw (a, counted_as heights widths gaps marks e);
+        holds = rw a g;
+        reads_back =
+            rw (a, g, take_at (file_of (entries_of heights widths gaps marks)) (drop (7 + 8 * length (entries_of heights widths gaps marks)) out) (7 + 8 * length (entries_of heights widths gaps marks)) (file_length (entries_of heights widths gaps marks)))
+            (one_file heights widths gaps marks s (is heights widths gaps marks e));
+      }

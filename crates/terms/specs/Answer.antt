@@ -1,5 +1,5 @@
 -- What a call answers, in document 01's numbers and values.
-use Rattle.std.specs.Prelude.{ℕ, Bool, true, false, Result, Ok, Err}
+use Rattle.std.specs.Prelude.{ℕ, Bool, true, false, List, Result, Ok, Err, codes}
 use Rattle.terms.specs.declared.Refusal.{Refusal}
 
 -- "The answer .. is a result or one of the .. refusals": a refusal is its number, a result its values.
@@ -30,6 +30,20 @@ number_of Refusal.ShortBuffer = 8
 number_of Refusal.Unmeetable = 9
 number_of Refusal.BrokenFolding = 10
 number_of Refusal.BadMark = 11
+
+-- The trade words as text.
+abbrev pub trade_word : Refusal → List ℕ
+trade_word Refusal.WrongFile = codes "wrong file"
+trade_word Refusal.WrongVersion = codes "wrong version"
+trade_word Refusal.WrongLength = codes "wrong length"
+trade_word Refusal.StackSize = codes "stack size"
+trade_word Refusal.BadComponent = codes "bad component"
+trade_word Refusal.BadGap = codes "bad gap"
+trade_word Refusal.BadLimit = codes "bad limit"
+trade_word Refusal.ShortBuffer = codes "short buffer"
+trade_word Refusal.Unmeetable = codes "unmeetable"
+trade_word Refusal.BrokenFolding = codes "broken folding"
+trade_word Refusal.BadMark = codes "bad fold mark"
 
 -- The answer of a call: its result, or the number of its refusal.
 abbrev pub answer_of : {A : Type 0} → Result A Refusal → Answer A

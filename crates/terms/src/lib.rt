@@ -5,7 +5,7 @@
 ghost use Rattle.std.specs.Prelude.{◌≡◌, ◌<◌, Bool, Some};
 ghost use Rattle.std.specs.Fmt.{decimal};
 ghost use Rattle.terms.specs.declared.Component.{Component};
-ghost use Rattle.terms.specs.Answer.{number_of};
+ghost use Rattle.terms.specs.Answer.{number_of, trade_word};
 ghost use Rattle.terms.specs.Component.{in_size, most_of, good_size, good_gap, good_mark};
 ghost use Rattle.terms.specs.Pieces.{component_of};
 ghost use Rattle.terms.specs.Position.{next_of};
@@ -111,20 +111,23 @@ impl fmt::Display for Slices {
     }
 }
 
+// Its trade word.
 impl fmt::Display for Refusal {
+    ghost output = { λ k. Some (trade_word k) };
+
     fn fmt<W: fmt::Write>(&self, f: &mut fmt::Formatter<W>) -> fmt::Result {
         match self {
-            Refusal::WrongFile => write!(f, "wrong file"),
-            Refusal::WrongVersion => write!(f, "wrong version"),
-            Refusal::WrongLength => write!(f, "wrong length"),
-            Refusal::StackSize => write!(f, "stack size"),
-            Refusal::BadComponent => write!(f, "bad component"),
-            Refusal::BadGap => write!(f, "bad gap"),
-            Refusal::BadLimit => write!(f, "bad limit"),
-            Refusal::ShortBuffer => write!(f, "short buffer"),
-            Refusal::Unmeetable => write!(f, "unmeetable"),
-            Refusal::BrokenFolding => write!(f, "broken folding"),
-            Refusal::BadMark => write!(f, "bad fold mark"),
+            Refusal::WrongFile => f.write_str("wrong file"),
+            Refusal::WrongVersion => f.write_str("wrong version"),
+            Refusal::WrongLength => f.write_str("wrong length"),
+            Refusal::StackSize => f.write_str("stack size"),
+            Refusal::BadComponent => f.write_str("bad component"),
+            Refusal::BadGap => f.write_str("bad gap"),
+            Refusal::BadLimit => f.write_str("bad limit"),
+            Refusal::ShortBuffer => f.write_str("short buffer"),
+            Refusal::Unmeetable => f.write_str("unmeetable"),
+            Refusal::BrokenFolding => f.write_str("broken folding"),
+            Refusal::BadMark => f.write_str("bad fold mark"),
         }
     }
 }

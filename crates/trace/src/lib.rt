@@ -2,7 +2,9 @@
 #![tactic(auto)]
 
 ghost use Rattle.std.specs.Prelude.{◌≡◌, ◌-◌, ◌*◌, ◌≤◌, ◌<◌, length, get_or, take};
-ghost use Rattle.terms.specs.Pieces.{heights_in, stack_in, columns};
+ghost use Rattle.terms.specs.Pieces.{heights_in, stack_in, columns, sizes};
+ghost use Rattle.terms.specs.declared.Kind.TheVariants.{Nested};
+ghost use Rattle.group.specs.Table.{Filled};
 ghost use Rattle.layout.specs.Plan.{plan_widths, plan_ends};
 ghost use Rattle.trace.specs.Trace.{GroupAsks, FoldFound, GroupPut, TraceAsks, Traced};
 
@@ -12,16 +14,14 @@ use numbers::gap;
 use terms::{Kind, Piece, Rows, Slices};
 
 // Behind how many components the group has its fold: behind all of them where it has none.
-fn fold_at(kind: Kind, g0: Rows, cap: Slices, stack: &[Piece], work: &mut [u32]) -> usize
-    requires { columns stack.now (GroupAsks kind g0.0) work.old }
-    ensures { columns stack.now (FoldFound kind g0.0 cap.0) work.new result }
+fn fold_at(kind: Kind, g0: Rows, table: Table) -> usize
+    requires group { columns table.stack.now (GroupAsks kind g0.0) table.cells.now }
+    requires filled { kind ≡ Nested → sizes table.stack.now Filled table.cells.now table.cap.0 }
+    ensures { columns table.entry.stack.now (FoldFound kind g0.0 table.entry.cap.0) table.entry.cells.now result }
 {
     match kind {
-        Kind::Apart => stack.len(),
-        Kind::Nested => {
-            group_table::fill(stack, work, cap);
-            group_height::fold_point(g0, stack, Table { cells: work, cap })
-        }
+        Kind::Apart => table.stack.len(),
+        Kind::Nested => group_height::fold_point(g0, table),
     }
 }
 
@@ -38,9 +38,17 @@ fn put_group(
     requires { columns stack.now (GroupAsks kind g0.0) work.old × (3 * length (heights_in stack.now) ≤ length out.old) }
     ensures { columns stack.now (GroupPut kind group g0.0 cap.0) out.old out.new }
 {
-    let p = fold_at(kind, g0, cap, stack, work);
-    let table = Table { cells: work, cap };
-    group_trace::write_group(stack, table, out, group, p);
+    // Apart no group has a fold, and one may have more components than a table takes.
+    if kind == Kind::Nested {
+        group_table::fill(stack, work, cap);
+    }
+    let table = Table {
+        stack,
+        cells: work,
+        cap,
+    };
+    let left = fold_at(kind, g0, table);
+    group_trace::write_group(table, out, group, left);
 }
 
 // The components of the first group.

@@ -5,6 +5,7 @@
 #![tactic(auto)]
 
 use folding::Outline;
+use stack::Version;
 use std::alloc::{AllocError, Global};
 use std::io::{self, BufWriter, Read, Write};
 use terms::{Kind, LEAST_WORK, MOST_LIMIT, Refusal, Rows, Slices};
@@ -55,11 +56,12 @@ enum Goal {
     SmallestArea,
 }
 
-// A file of at most MOST components, and how it is folded.
+// A file of at most MOST components, how it is folded, and the table that is listed for that.
 #[derive(Clone, Copy, Debug, PartialEq, Eq)]
 struct Stack<'a> {
     file: &'a [u8],
     kind: Kind,
+    table: &'a [Outline],
 }
 
 impl Stack<'_> {
@@ -89,66 +91,95 @@ impl Stack<'_> {
         self.fold(goal, &mut [0; 3 * MOST]) == Err(Refusal::Unmeetable)
     }
 
-    fn has_table(self, table: &[Outline]) -> bool {
+    fn has_table(self) -> bool {
         let mut pairs = [[0u32; 2]; OUTLINES];
         let mut work = [9u32; LEAST_WORK];
         let answer = fold_table::table(self.file, self.kind, pairs.as_flattened_mut(), &mut work);
-        let mut found = pairs.iter().zip(table);
-        answer == Ok(table.len()) && found.all(|(pair, wanted)| outline_of(*pair) == *wanted)
+        let mut found = pairs.iter().zip(self.table);
+        answer == Ok(self.table.len()) && found.all(|(pair, o)| *pair == [o.width.0, o.height.0])
+    }
+
+    // The line of smallest area; of equals the first, which is the narrowest.
+    fn has_smallest_of_table(self) -> bool {
+        let smallest = self
+            .table
+            .iter()
+            .min_by_key(|o| best::product(o.width.0, o.height.0));
+        smallest.is_some_and(|o| self.folds(Goal::SmallestArea, *o))
+    }
+
+    // Each outline at its own sizes, and at the greatest limits below the next one's width and the height of the one before.
+    fn outline_cases(self, tally: &mut Tally) {
+        for outline in self.table {
+            tally.count(self.folds(Goal::ToHeight(outline.height), *outline));
+            tally.count(self.folds(Goal::ToWidth(outline.width), *outline));
+        }
+        for [slim, low] in self.table.array_windows::<2>() {
+            let height = Rows(slim.height.0.saturating_sub(1));
+            let width = Slices(low.width.0.saturating_sub(1));
+            tally.count(self.folds(Goal::ToHeight(height), *low));
+            tally.count(self.folds(Goal::ToWidth(width), *slim));
+        }
+    }
+
+    // The table's ends at the greatest limit of all. Below the narrowest and below the lowest there is none.
+    fn end_cases(self, tally: &mut Tally) {
+        if let (Some(narrowest), Some(lowest)) = (self.table.first(), self.table.last()) {
+            tally.count(self.folds(Goal::ToHeight(Rows(MOST_LIMIT)), *narrowest));
+            tally.count(self.folds(Goal::ToWidth(Slices(MOST_LIMIT)), *lowest));
+            let width = narrowest.width.0;
+            let height = lowest.height.0;
+            if 1 < width {
+                tally.count(self.has_no_folding(Goal::ToWidth(Slices(width - 1))));
+            }
+            if 1 < height {
+                tally.count(self.has_no_folding(Goal::ToHeight(Rows(height - 1))));
+            }
+        }
     }
 }
 
-// The numbers of a text, one after another.
-fn numbers(alloc: Global, text: &str) -> Result<Vec<u32>, AllocError> {
-    text.split(|c: char| !c.is_ascii_digit())
-        .filter(|word| !word.is_empty())
-        .map(|word| word.parse().unwrap_or(0))
-        .collect(alloc)
+// A field of a line, from 0 on. Only some lines have those for the smallest area.
+fn field(text: &str, k: usize) -> Option<&str> {
+    text.split('|').nth(k)
 }
 
-// A field that is not there is empty.
-fn field<'a>(text: &'a str, k: usize) -> &'a str {
-    text.split('|').nth(k).unwrap_or("")
-}
-
-// A pair is a width and a height.
-fn outline_of([width, height]: [u32; 2]) -> Outline {
-    Outline {
-        width: Slices(width),
-        height: Rows(height),
-    }
-}
-
-// The outlines of a text, one after another.
-fn outlines(alloc: Global, text: &str) -> Result<Vec<Outline>, AllocError> {
-    let numbers = numbers(alloc, text)?;
-    let (pairs, _) = numbers.as_chunks::<2>();
-    pairs.iter().copied().map(outline_of).collect(alloc)
+// A width and a height.
+fn outline(text: &str) -> Option<Outline> {
+    let (width, height) = text.trim().split_once(' ')?;
+    Some(Outline {
+        width: Slices(width.parse().ok()?),
+        height: Rows(height.parse().ok()?),
+    })
 }
 
 impl Wanted {
-    fn read(alloc: Global, table: &str, area: &str) -> Result<Wanted, AllocError> {
+    fn read(alloc: Global, table: Option<&str>, area: Option<&str>) -> Result<Wanted, AllocError> {
+        let outlines = table.unwrap_or_default().split(',');
         Ok(Wanted {
-            table: outlines(alloc, table)?,
-            smallest: outlines(alloc, area)?.first().copied(),
+            table: outlines.filter_map(outline).collect(alloc)?,
+            smallest: area.and_then(outline),
         })
     }
 }
 
-// The stack file of a line's numbers, in the order in which they stand: the writer makes no version 1. A component has three
-// numbers there, and four in version 2, whose lines have a field for the smallest area.
+// The stack file of a line, its numbers in the order in which they stand: the writer makes no version 1. Where the line has a
+// field for the smallest area, each component has a mark.
 fn listed_file(alloc: Global, text: &str) -> Result<Vec<u8>, AllocError> {
-    let sizes = numbers(alloc, field(text, 0))?;
-    let (version, each) = if field(text, 3).is_empty() {
-        (1, 3)
-    } else {
-        (2, 4)
+    let version = match field(text, 3) {
+        None => Version::First,
+        Some(_) => Version::Second,
     };
-    let count = sizes.len() / each;
-    let mut file = vec![in alloc; b'S', b'T', b'K', version, 0]?;
+    let components = field(text, 0).unwrap_or_default();
+    let count = components.split_whitespace().count();
+    let mut file = vec![in alloc; b'S', b'T', b'K']?;
+    file.extend_from_slice(&u16::from(version).to_le_bytes())?;
     file.extend_from_slice(&count.to_le_bytes()[..2])?;
-    for size in &sizes {
-        file.extend_from_slice(&size.to_le_bytes()[..2])?;
+    for component in components.split_whitespace() {
+        for size in component.split('/') {
+            let size: u16 = size.parse().unwrap_or(0);
+            file.extend_from_slice(&size.to_le_bytes())?;
+        }
     }
     Ok(file)
 }
@@ -163,61 +194,21 @@ impl Line {
     }
 }
 
-// Each outline at its own sizes, and at the greatest limits that it is still the best for: one below the next outline's.
-fn outline_cases(stack: Stack, table: &[Outline], tally: &mut Tally) {
-    let mut highest = MOST_LIMIT;
-    for (i, outline) in table.iter().enumerate() {
-        let next = table.get(i + 1);
-        let widest = next.map_or(MOST_LIMIT, |next| next.width.0.saturating_sub(1));
-        tally.count(stack.folds(Goal::ToHeight(outline.height), *outline));
-        tally.count(stack.folds(Goal::ToHeight(Rows(highest)), *outline));
-        tally.count(stack.folds(Goal::ToWidth(outline.width), *outline));
-        tally.count(stack.folds(Goal::ToWidth(Slices(widest)), *outline));
-        highest = outline.height.0.saturating_sub(1);
-    }
-}
-
-// Below the lowest and below the narrowest there is none.
-fn below_cases(stack: Stack, table: &[Outline], tally: &mut Tally) {
-    if let (Some(narrowest), Some(lowest)) = (table.first(), table.last()) {
-        let width = narrowest.width.0;
-        let height = lowest.height.0;
-        if 1 < width {
-            tally.count(stack.has_no_folding(Goal::ToWidth(Slices(width - 1))));
-        }
-        if 1 < height {
-            tally.count(stack.has_no_folding(Goal::ToHeight(Rows(height - 1))));
-        }
-    }
-}
-
-// The line of smallest area; of equals the first, which is the narrowest.
-fn has_smallest_of(stack: Stack, table: &[Outline]) -> bool {
-    let smallest = table
-        .iter()
-        .min_by_key(|o| best::product(o.width.0, o.height.0));
-    smallest.is_some_and(|o| stack.folds(Goal::SmallestArea, *o))
-}
-
-fn table_cases(stack: Stack, table: &[Outline], tally: &mut Tally) {
-    tally.count(stack.has_table(table));
-    tally.count(has_smallest_of(stack, table));
-    outline_cases(stack, table, tally);
-    below_cases(stack, table, tally);
-}
-
-fn kind_cases(stack: Stack, wanted: &Wanted, tally: &mut Tally) {
-    table_cases(stack, &wanted.table, tally);
-    if let Some(outline) = wanted.smallest {
+fn kind_cases(stack: Stack, smallest: Option<Outline>, tally: &mut Tally) {
+    tally.count(stack.has_table());
+    tally.count(stack.has_smallest_of_table());
+    stack.outline_cases(tally);
+    stack.end_cases(tally);
+    if let Some(outline) = smallest {
         tally.count(stack.folds(Goal::SmallestArea, outline));
     }
 }
 
 fn file_cases(file: &[u8], line: &Line, tally: &mut Tally) {
-    let kind = Kind::Apart;
-    kind_cases(Stack { file, kind }, &line.apart, tally);
-    let kind = Kind::Nested;
-    kind_cases(Stack { file, kind }, &line.nested, tally);
+    for (kind, wanted) in [(Kind::Apart, &line.apart), (Kind::Nested, &line.nested)] {
+        let table = &wanted.table;
+        kind_cases(Stack { file, kind, table }, wanted.smallest, tally);
+    }
 }
 
 // The file that the writer makes of what reading gives.

@@ -1,5 +1,5 @@
-use Prim.Native.Nat.{◌<◌}
-use mathlib.Core.Path.{refl, ◌∙◌}
+use Prim.Native.Nat.{◌<◌, ◌/◌, max}
+use mathlib.Core.Path.{◌≡◌, refl, ◌∙◌}
 use native.Mathlib.Omega.{arith}
 use Rattle.std.proofs.Common.{rules}
 use Rattle.best.proofs.Planning.{met}
@@ -22,8 +22,9 @@ pub loop-flat-preserved : goal.loop-flat-preserved
 loop-flat-preserved c =
     let i = c.loop-flat.invariant in
     let low : c.args.flat.tallest.0 < c.loop-flat.limit.0 = search rules in
+    let larger : c.max-limit.result.0 ≡ max c.args.flat.tallest.0 (c.loop-flat.limit.0 / 2) = search rules in
     record {
       same = c.outline.ensures.same ∙ i.same;
-      lead = rw c.smaller-lead.ensures (smaller_leads _ _ c.requires.stacked _ i.lead _ (omega (arith, low)) _ (met _ _ _ i.same c.outline.ensures.outlined c.in-Some.is));
-      low = omega (arith, low);
+      lead = rw c.smaller-lead.ensures (smaller_leads _ _ c.requires.stacked _ i.lead _ (omega (arith, low, larger)) _ (met _ _ _ i.same c.outline.ensures.outlined c.in-Some.is));
+      low = omega (arith, low, larger);
     }

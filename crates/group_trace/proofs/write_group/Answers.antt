@@ -15,4 +15,4 @@ loop-turn-preserved c =
 
 pub returns : goal.returns
 returns c = ended c.requires _ c.loop-turn.invariant.0
-    (omega (arith, heights_length c.args.stack.now, c.loop-turn.invariant.1, c.loop-turn-test.false))
+    (omega (arith, heights_length c.args.table.stack.now, c.loop-turn.invariant.1, c.loop-turn-test.false))

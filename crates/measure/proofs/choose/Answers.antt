@@ -1,13 +1,9 @@
 use Rattle.std.proofs.Common.{Some, refl, sym, ap, ◌∙◌}
 use lib.Seq.{length-take-le}
-use Rattle.stack.proofs.Reading.{held, not_held}
+use Rattle.stack.proofs.Reading.{held}
 use Rattle.measure.proofs.Measuring.{stack_held}
-use Rattle.measure.proofs.Choosing.{chose_refused, chose, first_long, second_long}
+use Rattle.measure.proofs.Choosing.{chose, first_long, second_long}
 use Rattle.measure.proofs.choose.Goals as goal
-
-pub returns-in_default : goal.returns-in_default
-returns-in_default c = chose_refused c.args.kind c.args.file.now c.args.first.now c.args.second.now _
-    (not_held _ _ _ c.in_default.ensures)
 
 pub better_of-requires : goal.better_of-requires
 better_of-requires c = stack_held (held _ _ c.pieces-pieces.ensures c.in-Ok.ensures)

@@ -1,6 +1,6 @@
 use mathlib.Core.Path.{sym}
 use Rattle.terms.proofs.Pieces.{heights_length}
-use Rattle.plan.proofs.Trying.{flat_is, wide_4000, wide_some, best_low, narrow_asks, folds_wide, folds_none, folds_tried}
+use Rattle.plan.proofs.Trying.{flat_is, wide_4000, wide_some, best_low, narrow_asks, folds_wide, folds_none, found_low, folds_tried}
 use native.Mathlib.Omega.{arith}
 use Rattle.plan.proofs.try_folds.Goals as goal
 
@@ -15,6 +15,15 @@ pub narrowest-requires : goal.narrowest-requires
 narrowest-requires c =
     narrow_asks c.requires.group_asks c.requires.word_asks _ _ (flat_is c.requires.group_asks (sym (heights_length c.args.stack.now)) c.flat_height.ensures)
     c.requires.free (omega (arith, c.min.ensures, c.if-bound-rest.false)) (omega (arith, c.min.ensures))
+
+pub improved-requires : goal.improved-requires
+improved-requires c = omega (
+  arith,
+  found_low c.requires.group_asks _ c.too_wide-bound.ensures.width_le_result _ c.min.ensures c.narrowest.ensures.narrow (c.in_ok-group.was),
+  c.min.ensures,
+  wide_4000 c.requires.group_asks,
+  c.requires.group_asks.rest_width,
+)
 
 pub returns-clause-result_value : goal.returns-clause-result_value
 returns-clause-result_value c =

@@ -3,4 +3,4 @@ use Rattle.trace.proofs.Grouping.{apart_found}
 use Rattle.trace.proofs.fold_at.Goals as goal
 
 pub returns-in-Apart : goal.returns-in-Apart
-returns-in-Apart c = rw (← heights_length c.args.stack.now) (apart_found c.requires c.in-Apart.is)
+returns-in-Apart c = rw (← heights_length c.args.table.stack.now) (apart_found c.requires.group c.in-Apart.is)
