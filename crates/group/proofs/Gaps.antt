@@ -44,6 +44,3 @@ module _ (hs ws gs : List ℕ) where
 
   pub unbarred_behind : (p : ℕ) → 0 < p → p ≤ length hs → unbarred (take p (components_in hs ws gs)) ≡ not (barred_at gs (p - 1))
   unbarred_behind p s h = rw (last_behind (λ x. x.mark) (component_in hs ws gs) (length hs) p s h)
-
-  pub unbarred_behind_all : 0 < length hs → unbarred (components_in hs ws gs) ≡ not (barred_at gs (length hs - 1))
-  unbarred_behind_all s = rw (last_behind_all (λ x. x.mark) (component_in hs ws gs) (length hs) s)

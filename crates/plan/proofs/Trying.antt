@@ -65,6 +65,10 @@ module _ {kind : Kind} {limit g0 : ℕ} {z : Sizes} {hs ws gs : List ℕ} {best 
   pub barred_tried : unbarred (components_in hs ws gs) ≡ false → layout_in best ≡ tried kind limit g0 hs ws gs best rest
   barred_tried u = sym (skip_group (groups kind) limit g0 true (components_in hs ws gs) (layout_in rest) (length hs) (layout_in best) a.fair (omega (arith, barred_end kind (components_in hs ws gs) g0 limit u)))
 
+  -- From the width b on a layout with this rest is no better than the best one.
+  pub too_wide : (b : ℕ) → (best.width.0 ≤ b) × (b ≤ best.width.0 → best.height.0 ≤ rest.height.0) → b ≤ rest.width.0 + z.widest.0 → layout_in best ≡ tried kind limit g0 hs ws gs best rest
+  too_wide b from h = sym (skip_widest (λ last. may_stand kind) limit g0 true (components_in hs ws gs) (layout_in rest) (length hs) (layout_in best) a.fair b from.0 from.1 (omega (arith, a.widest_is)))
+
   pub rest_none : none ≤ rest.width.0 → layout_in best ≡ tried kind limit g0 hs ws gs best rest
   rest_none h = sym (skip_rest (groups kind) limit g0 true (components_in hs ws gs) (layout_in rest) (length hs) (layout_in best) a.fair h)
 
@@ -127,10 +131,6 @@ module _ {limit g0 : ℕ} {z : Sizes} {hs ws gs : List ℕ} {best rest : Entry} 
 
   -- From the width b on a layout with this rest is no better than the best one.
   module _ (b : ℕ) (from : (best.width.0 ≤ b) × (b ≤ best.width.0 → best.height.0 ≤ rest.height.0)) where
-    pub folds_wide : b ≤ rest.width.0 + z.widest.0 → layout_in best ≡ tried Nested limit g0 hs ws gs best rest
-    folds_wide h =
-        sym (skip_widest (λ last. may_stand Nested) limit g0 true (components_in hs ws gs) (layout_in rest) (length hs) (layout_in best) a.fair b from.0 from.1 (omega (arith, a.widest_is)))
-
     module _ (cap : ℕ) (e : cap ≡ min (2 * z.widest.0) (b - 1 - rest.width.0)) {found : Option Outline} (n : Narrow g0 hs ws gs limit cap found) where
       pub folds_none : found ≡ None → layout_in best ≡ tried Nested limit g0 hs ws gs best rest
       folds_none f = sym (go (order w cap))

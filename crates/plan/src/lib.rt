@@ -117,13 +117,16 @@ pub fn sizes_of(stack: &[Piece]) -> Sizes
     sizes
 }
 
-// A group without a fold in front of the rest. Where the rest does not keep the limit its width is NONE, and the two are wider
-// than every layout.
+// A group without a fold in front of the rest. Whether it is too wide to improve the best layout is asked first, as most are; in
+// front of a rest of NONE every group is.
 fn try_flat(ask: Asked, sizes: Sizes, stack: &[Piece], best: Entry, rest: &Entry) -> Option<Entry>
     requires group_asks { columns stack.now (GroupAsks Apart ask.limit.0 ask.before.0 sizes) best rest.now }
     requires free { unbarred (stack_in stack.now) ≡ true }
     ensures { layout_in (unwrap_or result best) ≡ columns stack.now (tried Apart ask.limit.0 ask.before.0) best rest.now }
 {
+    if too_wide(best, rest).0 <= rest.width.0 + sizes.widest.0 {
+        return None;
+    }
     let height = sizes.flat_height(ask.before, stack);
     if ask.limit < height {
         return None;

@@ -10,9 +10,6 @@ use borrow.Rule.Slice.PartMut.{put_mid, Post-is}
 pub from : (k : ℕ) (l : List ℕ) → take (length l - k) (drop k l) ≡ drop k l
 from k l = take_all (length l - k) (drop k l) (omega (arith, length-drop k l))
 
-pub from-length : (k : ℕ) (l : List ℕ) → length (take (length l - k) (drop k l)) ≡ length l - k
-from-length k l = rw (from k l) (length-drop k l)
-
 pub back : (k : ℕ) (l new : List ℕ) → k ≤ length l → put_mid k (length l - k) l new ≡ take k l ++ new
 back k l new h =
     ap (λ (z : List ℕ). take k l ++ (new ++ z)) (Post-is k (length l) l h ∙ drop-length l)

@@ -14,9 +14,6 @@ use Rattle.terms.proofs.Lists.{heights_of, widths_of, seams_of, AllMarked, colum
 pub heights_length : (s : List Piece) → length (heights_in s) ≡ length s
 heights_length s = length-map s _
 
-pub widths_length : (s : List Piece) → length (widths_in s) ≡ length s
-widths_length s = length-map s _
-
 pub seams_length : (s : List Piece) → length (seams_in s) ≡ length s
 seams_length s = length-map s _
 

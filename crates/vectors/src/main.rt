@@ -171,10 +171,10 @@ fn listed_file(alloc: Global, text: &str) -> Result<Vec<u8>, AllocError> {
         Some(_) => Version::Second,
     };
     let components = field(text, 0).unwrap_or_default();
-    let count = components.split_whitespace().count();
+    let count = u16::try_from(components.split_whitespace().count()).unwrap_or(0);
     let mut file = vec![in alloc; b'S', b'T', b'K']?;
     file.extend_from_slice(&u16::from(version).to_le_bytes())?;
-    file.extend_from_slice(&count.to_le_bytes()[..2])?;
+    file.extend_from_slice(&count.to_le_bytes())?;
     for component in components.split_whitespace() {
         for size in component.split('/') {
             let size: u16 = size.parse().unwrap_or(0);

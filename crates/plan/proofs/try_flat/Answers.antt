@@ -1,9 +1,15 @@
 use mathlib.Core.Path.{sym}
 use Rattle.std.proofs.Common.{rules}
 use Rattle.terms.proofs.Pieces.{heights_length}
-use Rattle.plan.proofs.Trying.{flat_is, wide_4000, flat_high, flat_tried}
+use Rattle.plan.proofs.Trying.{flat_is, wide_4000, too_wide, flat_high, flat_tried}
 use native.Mathlib.Omega.{arith}
 use Rattle.plan.proofs.try_flat.Goals as goal
+
+pub overflow_add-rest : goal.overflow_add-rest
+overflow_add-rest c = omega (arith, wide_4000 c.requires.group_asks, c.requires.group_asks.rest_width)
+
+pub returns-then-too_wide-rest : goal.returns-then-too_wide-rest
+returns-then-too_wide-rest c = too_wide c.requires.group_asks _ c.too_wide.ensures.width_le_result (search rules)
 
 pub returns-then-lt : goal.returns-then-lt
 returns-then-lt c =

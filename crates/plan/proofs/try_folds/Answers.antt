@@ -1,6 +1,6 @@
 use mathlib.Core.Path.{sym}
 use Rattle.terms.proofs.Pieces.{heights_length}
-use Rattle.plan.proofs.Trying.{flat_is, wide_4000, wide_some, best_low, narrow_asks, folds_wide, folds_none, found_low, folds_tried}
+use Rattle.plan.proofs.Trying.{flat_is, wide_4000, wide_some, best_low, narrow_asks, too_wide, folds_none, found_low, folds_tried}
 use native.Mathlib.Omega.{arith}
 use Rattle.plan.proofs.try_folds.Goals as goal
 
@@ -9,7 +9,7 @@ overflow_add-rest c = omega (arith, wide_4000 c.requires.group_asks, c.requires.
 
 pub returns-then-bound-rest-clause-result_value : goal.returns-then-bound-rest-clause-result_value
 returns-then-bound-rest-clause-result_value c =
-    folds_wide c.requires.group_asks _ c.too_wide-bound.ensures.width_le_result c.if-bound-rest.true
+    too_wide c.requires.group_asks _ c.too_wide-bound.ensures.width_le_result c.if-bound-rest.true
 
 pub narrowest-requires : goal.narrowest-requires
 narrowest-requires c =
