@@ -10,14 +10,11 @@ use Rattle.terms.specs.declared.Kind.{Kind}
 use Rattle.terms.specs.declared.Piece.{Piece}
 use Rattle.terms.specs.Pieces.{columns, stack_in}
 use Rattle.std.specs.Prelude.{Result, Ok}
-use Rattle.std.specs.Result.{IsErrAnd}
-use Rattle.std.proofs.lemmas.Result.{err_from_is_err_and}
-use Rattle.terms.specs.Answer.{Answer, refusal, result, number_of, answer_of}
+use Rattle.terms.specs.Answer.{Answer, result, answer_of}
 use Rattle.terms.specs.declared.Refusal.{Refusal}
 use Rattle.terms.proofs.Pieces.{heights_length}
-use Rattle.stack.specs.File.{check_of}
 use Rattle.stack.specs.Calls.{pieces_of}
-use Rattle.stack.proofs.Reading.{Held, held, not_held, components_held, count_held}
+use Rattle.stack.proofs.Reading.{Held, held, components_held, count_held}
 use Rattle.folding.specs.declared.Outline.{Outline}
 use Rattle.layout.proofs.Groups.{Stacked}
 use Rattle.fold.specs.Calls.{fold_checks, valid_of, Wanted, Searched, Answered, by_height}
@@ -25,11 +22,6 @@ use Rattle.best.specs.Asks.{Foldable, Written}
 use Rattle.fold.proofs.Checks.{Lent, lent, all_well}
 use Rattle.fold.proofs.Held.{read, stacked_plan}
 use Rattle.fold.proofs.Limits.{to_height}
-
--- What `?` hands on of a file that is refused.
-pub refused_file : {A : Type 0} (kind : Kind) (file : List ℕ) (k : Refusal) (r : Result A Refusal) → IsErrAnd r (λ y. y ≡ k) → refusal (number_of k) ≡ pieces_of kind file
-    → (answer_of r ≡ refusal (number_of k)) × (check_of kind file ≡ refusal (number_of k))
-refused_file kind file k r e d = let p = err_from_is_err_and r e in (rw (p.1, p.2), not_held kind file _ d)
 
 module _ (wanted : Wanted) (kind : Kind) (limit : ℕ) (out work : List ℕ) where
   searched : (out' work' : List ℕ) (answer : Answer Outline) (cs : List Component) (a : Answer (List Component)) → a ≡ result cs → Searched wanted cs out out' answer

@@ -72,14 +72,6 @@ module _ {hs ws es old : List ℕ} {from cap : ℕ} (s : WriteAsks hs ws es old 
     whole_of ps t = reverse_aux (on_left g t.on_the_left) (ps ++ on_right g t.on_the_right)
 
     module _ {t : Turn} (n : Turned cap hs ws at t) where
-      -- The turn places a component of the group.
-      pub index_in : t.index < length hs
-      index_in = go t.side refl
-        where
-          go : (side : Side) → t.side ≡ side → t.index < length hs
-          go Left l = rw (n.to_left l).1 (omega (arith, (n.to_left l).0, i.below, s.within))
-          go Right l = rw (n.to_right l).1 (n.to_right l).0
-
       pub one_more : (k : ℕ) → at.left + k ≡ at.right → t.next.left + (k + 1) ≡ t.next.right
       one_more k c = go t.side refl
         where

@@ -1,11 +1,7 @@
-use mathlib.Core.Path.{refl}
 use Rattle.terms.specs.Answer.{answer_of}
 use Rattle.fold.specs.Calls.{by_width}
-use Rattle.fold.proofs.Answering.{refused_file, search_asks, answered}
+use Rattle.fold.proofs.Answering.{search_asks, answered}
 use Rattle.fold.proofs.to_width.Goals as goal
-
-pub returns-in_err-stack : goal.returns-in_err-stack
-returns-in_err-stack c = let q = refused_file _ _ _ c.from_residual.result c.from_residual.ensures.1 c.in_err-stack.ensures in rw (q.0, q.1) (refl, refl, refl)
 
 pub write_slim-requires : goal.write_slim-requires
 write_slim-requires c =

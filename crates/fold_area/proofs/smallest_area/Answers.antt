@@ -1,12 +1,8 @@
-use mathlib.Core.Path.{refl}
 use native.Mathlib.Omega.{arith}
 use Rattle.terms.specs.Answer.{answer_of}
-use Rattle.fold.proofs.Answering.{refused_file, search_asks, answered}
+use Rattle.fold.proofs.Answering.{search_asks, answered}
 use Rattle.fold_area.specs.Calls.{by_area}
 use Rattle.fold_area.proofs.smallest_area.Goals as goal
-
-pub returns-in_err-stack : goal.returns-in_err-stack
-returns-in_err-stack c = let q = refused_file _ _ _ c.from_residual.result c.from_residual.ensures.1 c.in_err-stack.ensures in rw (q.0, q.1) (refl, refl, refl)
 
 pub write_smallest-requires : goal.write_smallest-requires
 write_smallest-requires c =

@@ -1,12 +1,7 @@
-use mathlib.Core.Path.{refl}
 use Rattle.terms.specs.Answer.{answer_of}
 use Rattle.stack.proofs.Reading.{held}
-use Rattle.fold.proofs.Answering.{refused_file}
 use Rattle.fold_table.proofs.Tables.{work_held, of_file, list_asks, tabled}
 use Rattle.fold_table.proofs.table.Goals as goal
-
-pub returns-in_err-stack : goal.returns-in_err-stack
-returns-in_err-stack c = let q = refused_file _ _ _ c.from_residual.result c.from_residual.ensures.1 c.in_err-stack.ensures in rw (q.0, q.1) (refl, refl, refl)
 
 pub list_outlines-requires : goal.list_outlines-requires
 list_outlines-requires c =

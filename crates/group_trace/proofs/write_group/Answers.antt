@@ -1,12 +1,7 @@
 use native.Mathlib.Omega.{arith}
 use Rattle.terms.proofs.Pieces.{heights_length}
-use Rattle.group_trace.proofs.Writing.{index_in, one_more, turn_more, ended}
+use Rattle.group_trace.proofs.Writing.{one_more, turn_more, ended}
 use Rattle.group_trace.proofs.write_group.Goals as goal
-
-pub put-requires : goal.put-requires
-put-requires c =
-    let h = index_in c.requires _ c.loop-turn.invariant.0 c.of-t.ensures in
-    (omega (arith, h, c.requires.few), omega (arith, h, c.requires.room, c.loop-turn.invariant.0.long))
 
 pub loop-turn-preserved : goal.loop-turn-preserved
 loop-turn-preserved c =

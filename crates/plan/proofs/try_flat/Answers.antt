@@ -16,9 +16,6 @@ returns-then-lt c =
     let a = c.requires.group_asks in
     flat_high a (flat_is a (sym (heights_length c.args.stack.now)) c.flat_height-height.ensures) c.requires.free (search rules)
 
-pub improved-requires : goal.improved-requires
-improved-requires c = omega (arith, wide_4000 c.requires.group_asks, c.requires.group_asks.rest_width)
-
 pub returns : goal.returns
 returns c =
     let a = c.requires.group_asks in
