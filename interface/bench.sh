@@ -5,17 +5,18 @@
 #   interface/bench.sh [--renew] [--keep FILE]
 #   interface/bench.sh --measure
 #   interface/bench.sh --marks
+#   interface/bench.sh --cells
 #
 # The picture goes to target/performance.svg; with --renew it goes to docs/performance.svg instead. With --keep the run's
 # figures go to FILE. With --measure measuring alone is timed, which takes a second. With --marks stacks with barred folds
-# are timed beside the same stacks without marks, some five minutes. Figures that were kept as
-# interface/bench/before.txt are shown beside those of the run: keep them, on the machine where both runs are made, before
-# the library changes.
+# are timed beside the same stacks without marks, some five minutes. With --cells rows of standard cells are timed, under a
+# minute. Figures that were kept as interface/bench/before.txt are shown beside those of the run: keep them, on the machine
+# where both runs are made, before the library changes.
 set -euo pipefail
 picture=target/performance.svg
 keep=()
 alone=()
-if [ "$*" = --measure ] || [ "$*" = --marks ]; then
+if [ "$*" = --measure ] || [ "$*" = --marks ] || [ "$*" = --cells ]; then
     alone=("$1")
     shift
 fi
@@ -28,7 +29,7 @@ while [ $# -gt 0 ]; do
             keep=(--keep "$(realpath -m "$2")")
             shift 2
             ;;
-        *) echo "usage: interface/bench.sh [--renew] [--keep FILE] | --measure | --marks" >&2; exit 2 ;;
+        *) echo "usage: interface/bench.sh [--renew] [--keep FILE] | --measure | --marks | --cells" >&2; exit 2 ;;
     esac
 done
 source "$(dirname "${BASH_SOURCE[0]}")/library.sh"

@@ -1,6 +1,6 @@
 #!/usr/bin/env bash
-# Tests the Rust crate, builds the example in C and in Rust, runs both on stack E, without marks and with one, and
-# compares what they print.
+# Tests the Rust crate, builds the example in C and in Rust, runs both on stack E, without marks and with one, and on a
+# row of cells, and compares what they print.
 set -euo pipefail
 source "$(dirname "${BASH_SOURCE[0]}")/library.sh"
 
@@ -15,22 +15,28 @@ said() {
     "$@" 2>&1 || true
 }
 
-# Compares what both print for the stack file $1 and the words in $2.
+# Compares what both print for these words.
 both() {
-    echo "== $1 $2"
-    # shellcheck disable=SC2086
-    said target/example/fold_file "interface/example/$1" $2 | tee target/example/c.out
-    # shellcheck disable=SC2086
-    said "$CARGO_TARGET_DIR/release/examples/fold_file" "interface/example/$1" $2 > target/example/rust.out
+    echo "== $*"
+    said target/example/fold_file "$@" | tee target/example/c.out
+    said "$CARGO_TARGET_DIR/release/examples/fold_file" "$@" > target/example/rust.out
     cmp target/example/c.out target/example/rust.out
 }
 
 for words in "apart height 2" "nested height 3" "nested width 6" "apart width 5" "apart area" "nested area" \
     "apart table" "nested table" "nested height 0" "apart width 2"; do
-    both e.stk "$words"
+    # shellcheck disable=SC2086
+    both interface/example/e.stk $words
 done
 # The same stack in version 2, with a fold barred after its second component.
 for words in "apart height 2" "nested height 3" "apart table" "nested table" "nested area" "apart height 1"; do
-    both e_barred.stk "$words"
+    # shellcheck disable=SC2086
+    both interface/example/e_barred.stk $words
 done
+# A row of six cells, and one of none.
+for words in "height 5" "height 4" "height 3" "height 0" "count 2" "count 240000000"; do
+    # shellcheck disable=SC2086
+    both cells $words 3 1 2 2 4 1
+done
+both cells height 5
 echo "C and Rust print the same"

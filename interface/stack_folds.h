@@ -1,4 +1,5 @@
-/* Foldings of a bit-sliced stack: the calls of target/staticlib/libstack_folds.a, which interface/library.sh builds.
+/* Foldings of a bit-sliced stack, and stacks of standard cells: the calls of target/staticlib/libstack_folds.a, which
+ * interface/library.sh builds.
  *
  * The words, after Paik and Sahni, "Optimal Folding Of Bit Sliced Stacks":
  *   stack             components one above the other, C1 at the top to Cn at the bottom; their order never changes
@@ -26,26 +27,34 @@
  * end where the group's fold is, and in a group without a fold from the end of its last component. A folding is n
  * placements, C1's first.
  *
+ * A row of cells is lent as a list of their heights, 16 bits each: 1 to 60,000 standard cells, each 1 to 4,000 high,
+ * equal in width and without gaps, numbered from 1. This list is no stack file. Stacks of a row are runs of its cells,
+ * none empty, that hold all of them in their order; they are told by the number of each one's last cell. A stack's
+ * height is the sum of its cells' heights, and the height of several is that of the highest.
+ *
  * Every call answers every input, damaged ones too. What it asks of its caller is what C asks of every buffer: each
  * pointer is aligned and not null, even where its length is 0; each length counts the elements that are really there;
  * no buffer that a call writes overlaps another one of the same call.
  *
- * The refusals, in the order in which they are checked, save that 11 is checked directly after 6, and 10 before 9. All
- * heights and widths are checked before any gap, and all gaps before any mark:
+ * The twelve refusals, in the order in which they are checked, save that 12 is checked directly before 5, 11 directly
+ * after 6, 10 before 9, and for a row of cells 9 before 8. All heights and widths are checked before any gap, and all
+ * gaps before any mark:
  *
  *    0  a result, no refusal
  *    1  wrong file      under 7 bytes, or the letters are not STK
  *    2  wrong version   the version is neither 1 nor 2
  *    3  wrong length    the file is not 7+6n bytes in version 1, 7+8n in version 2; the writer's lists differ in length
  *    4  stack size      n is 0 or over 256; over 64 where nested is true
- *    5  bad component   a height or width outside 1 to 4,000
+ *    5  bad component   a height or width outside 1 to 4,000, of a component or a cell
  *    6  bad gap         a gap over 4,000, or the last gap not 0
- *    7  bad limit       a limit outside 1 to 2,000,000
+ *    7  bad limit       a limit outside 1 to 2,000,000; for a row of cells, of its stacks' height or their number,
+ *                       outside 1 to 240,000,000
  *    8  short buffer    a buffer is too short, as each call says
- *    9  unmeetable      no legal folding keeps the limit
+ *    9  unmeetable      no legal folding keeps the limit; a cell is higher than the limit
  *   10  broken folding  the placements are not legal; so it is where a component with mark 1 and the next one differ in
  *                       group or side
  *   11  bad fold mark   a mark over 1, or a last mark of 1
+ *   12  row size        a row of no cells, or of over 60,000
  *
  * A refusal leaves every buffer lent for results as it was. A result leaves everything past it as it was. What a work
  * buffer holds afterwards is open after a result, after 9, and after 8 for too long a table; every other refusal leaves
@@ -73,12 +82,14 @@ extern "C" {
 #define FOLDS_UNMEETABLE 9
 #define FOLDS_BROKEN_FOLDING 10
 #define FOLDS_BAD_FOLD_MARK 11
+#define FOLDS_ROW_SIZE 12
 
 /* The refusal's words; an empty string for 0 and for a number that is no refusal. */
 static inline const char *folds_word(uint32_t refusal) {
     static const char *const words[] = {
         "",        "wrong file", "wrong version", "wrong length", "stack size",     "bad component",
         "bad gap", "bad limit",  "short buffer",  "unmeetable",   "broken folding", "bad fold mark",
+        "row size",
     };
     return refusal < sizeof words / sizeof words[0] ? words[refusal] : "";
 }
@@ -90,11 +101,17 @@ static inline const char *folds_word(uint32_t refusal) {
 #define FOLDS_PLACEMENTS(n) ((size_t)3 * (n))
 #define FOLDS_PAIRS(n) ((size_t)2 * 4000 * (n))
 
+/* The most cells of a row; so many places hold the ends of the stacks of every row. */
+#define FOLDS_MOST_CELLS 60000
+
 /* count is the answer where refusal is 0, and is 0 otherwise. */
 typedef struct { uint32_t refusal; size_t count; } folds_count;
 
 /* The outline where refusal is 0; width and height are 0 otherwise. */
 typedef struct { uint32_t refusal; uint32_t width; uint32_t height; } folds_outline;
+
+/* The number of stacks and the height of the highest where refusal is 0; count and height are 0 otherwise. */
+typedef struct { uint32_t refusal; uint32_t count; uint32_t height; } folds_stacks;
 
 /* A part of a lent buffer, in elements from the buffer's start. The empty part has start 0 and length 0. */
 typedef struct { size_t start; size_t length; } folds_part;
@@ -169,6 +186,28 @@ folds_outline folds_smallest_area(const uint8_t *file, size_t file_len, bool nes
  * content open. */
 folds_count folds_table(const uint8_t *file, size_t file_len, bool nested,
                         uint32_t *pairs, size_t pairs_len, uint32_t *work, size_t work_len);
+
+/* Stacks cells to a height: a row in the fewest stacks that are at most `limit` high. Which cells end them is otherwise
+ * free. count: how many there are; height: that of the stacks written.
+ * Up to 256 cells, and at limits up to 2,000,000: for an apart stack of components of these heights, all of width 1,
+ * with all gaps and marks 0, and with buffers that are long enough, folds_to_height refuses with 9 exactly where this
+ * call does, and where this call gives a result its width is count.
+ * Writes the number of each stack's last cell, in order, to the first count places of ends; all beyond stays unchanged.
+ * Refusals 12, 5, 7; 9 where a cell is higher than `limit`, however long ends is; 8 where ends has fewer places than
+ * there are stacks. A refusal leaves ends unchanged. */
+folds_stacks folds_cells_to_height(const uint16_t *heights, size_t heights_len, uint32_t limit,
+                                   uint16_t *ends, size_t ends_len);
+
+/* Stacks cells to a count: a row in at most `most` stacks of the least height, and in the fewest stacks of that height.
+ * Which cells end them is otherwise free. count: how many there are; height: that of the stacks written.
+ * Up to 256 cells, and for `most` up to 2,000,000: for an apart stack of components of these heights, all of width 1,
+ * with all gaps and marks 0, and with buffers that are long enough, folds_to_width at the limit `most` gives the same
+ * height, where this call gives a result.
+ * Writes the number of each stack's last cell, in order, to the first count places of ends; all beyond stays unchanged.
+ * Refusals 12, 5, 7; 8 where ends has fewer places than there are stacks. There is always a result otherwise. A refusal
+ * leaves ends unchanged. */
+folds_stacks folds_cells_to_count(const uint16_t *heights, size_t heights_len, uint32_t most,
+                                  uint16_t *ends, size_t ends_len);
 
 #ifdef __cplusplus
 }

@@ -1,10 +1,17 @@
-/* Folds a stack file and prints the outline and the placements, or prints its outline table.
- * Arguments: FILE apart|nested height|width LIMIT, or FILE apart|nested area|table */
+/* Folds a stack file and prints the outline and the placements, or prints its outline table. Or stacks a row of cells
+ * of the heights given, and prints how many stacks there are, how high they are and where each ends.
+ * Arguments: FILE apart|nested height|width LIMIT, or FILE apart|nested area|table,
+ * or cells height|count LIMIT HEIGHT.. */
 #include "../stack_folds.h"
 #include <errno.h>
 #include <stdio.h>
 #include <stdlib.h>
 #include <string.h>
+
+static const char usage[] =
+    "usage: fold_file FILE apart|nested height|width LIMIT\n"
+    "       fold_file FILE apart|nested area|table\n"
+    "       fold_file cells height|count LIMIT HEIGHT..";
 
 /* The longest stack file has 256 components of version 2; one byte more shows a file that is longer still. */
 static uint8_t file[7 + 8 * 256 + 1];
@@ -64,11 +71,37 @@ static int table(size_t components) {
     return count.refusal == 0 ? EXIT_SUCCESS : refused(count.refusal);
 }
 
+/* The longest row has 60,000 cells; one more shows a row that is longer still. */
+static int cells(bool to_height, uint32_t limit, size_t count, char **words) {
+    static uint16_t heights[FOLDS_MOST_CELLS + 1], ends[FOLDS_MOST_CELLS];
+    if (count > FOLDS_MOST_CELLS + 1)
+        count = FOLDS_MOST_CELLS + 1;
+    for (size_t i = 0; i < count; i++) {
+        uint32_t height = number(words[i]);
+        /* A height that 16 bits do not hold is no better than 0: both are refused with 5. */
+        heights[i] = height > UINT16_MAX ? 0 : (uint16_t)height;
+    }
+    folds_stacks stacks = (to_height ? folds_cells_to_height : folds_cells_to_count)(
+        heights, count, limit, ends, FOLDS_MOST_CELLS);
+    if (stacks.refusal != 0)
+        return refused(stacks.refusal);
+    printf("stacks %u height %u\n", (unsigned)stacks.count, (unsigned)stacks.height);
+    for (size_t i = 0; i < stacks.count; i++)
+        printf("S%u ends with cell %u\n", (unsigned)i + 1, (unsigned)ends[i]);
+    return EXIT_SUCCESS;
+}
+
 int main(int argc, char **argv) {
+    if (argc >= 4 && strcmp(argv[1], "cells") == 0) {
+        bool to_height = strcmp(argv[2], "height") == 0;
+        if (!to_height && strcmp(argv[2], "count") != 0)
+            return fail("the limit is a height or a count");
+        return cells(to_height, number(argv[3]), (size_t)argc - 4, argv + 4);
+    }
     bool listing = argc == 4 && strcmp(argv[3], "table") == 0;
     bool area = argc == 4 && strcmp(argv[3], "area") == 0;
     if (argc != 5 && !listing && !area)
-        return fail("usage: fold_file FILE apart|nested height|width LIMIT\n       fold_file FILE apart|nested area|table");
+        return fail(usage);
     nested = strcmp(argv[2], "nested") == 0;
     if (!nested && strcmp(argv[2], "apart") != 0)
         return fail("the kind is apart or nested");

@@ -158,13 +158,13 @@ module _ {kind : Kind} {may : Bool → May} {Obeys : List Placed → Type 0} (ag
         o,
       )
 
-  legal_layout : (cs : List Component) (ps : List Placement) → LegalBy kind Obeys cs ps
+  pub legal_layout : (cs : List Component) (ps : List Placement) → LegalBy kind Obeys cs ps
       → (gs : List (Group Component)) × LayoutOf (λ x. gap x) Legally cs gs × (outline (width_of gs) (height_of gs) ≡ outline_of cs ps)
   legal_layout cs ps l =
       let c = cuts (length (placed_of cs ps)) 0 0 (placed_of cs ps) (omega arith) l.rules l.obeys in
       (c.groups, record { stands = c.stands; holds = c.holds ∙ components_placed cs ps l.whole }, rw (c.width, c.height))
 
-  layout_legal : (cs : List Component) (gs : List (Group Component)) → LayoutOf (λ x. gap x) Legally cs gs
+  pub layout_legal : (cs : List Component) (gs : List (Group Component)) → LayoutOf (λ x. gap x) Legally cs gs
       → (ps : List Placement) × LegalBy kind Obeys cs ps × (outline_of cs ps ≡ outline (width_of gs) (height_of gs))
   layout_legal cs gs l =
       let r = joined 0 0 gs l.stands in
@@ -176,7 +176,7 @@ module _ {kind : Kind} {may : Bool → May} {Obeys : List Placed → Type 0} (ag
   search_by cs s = transfer (legal_layout cs) (layout_legal cs) (layouts_search (groups_laws kind may agrees.fits) cs s.some s.good)
 
 -- Document 01 has no rule beside those of `LegalFrom`; ticket 3 has that of the marks.
-marked : (kind : Kind) → Agrees kind (λ last. may_stand kind) Unparted
+pub marked : (kind : Kind) → Agrees kind (λ last. may_stand kind) Unparted
 marked kind = record {
   fits = λ last. suits kind;
   marks = λ l u. u;

@@ -99,13 +99,6 @@ module _ (kind : Kind) (file : List ℕ) where
       let w = went_on (check_of kind file) (λ cs. result (map piece_of cs)) s (sym e) in
       record { components = w.0; checked = w.1; in_pieces = i ∙ sym (result_same w.2) }
 
-  pub not_held : (k : ℕ) → refusal k ≡ pieces_of kind file → check_of kind file ≡ refusal k
-  not_held k e = go (check_of kind file) (sym e)
-    where
-      go : (a : Answer (List Component)) → and_then a (λ cs. result (map piece_of cs)) ≡ refusal k → a ≡ refusal k
-      go (refusal j) m = let n : j ≡ k = cc in rw n
-      go (result cs) m = cc
-
 module _ {kind : Kind} {file : List ℕ} {s : List Piece} (h : Held kind file s) where
   pub components_held : stack_in s ≡ h.components
   components_held = rw h.in_pieces (unpacked h.components (all_marked h.components (valid kind file h.components h.checked).stack.marks))

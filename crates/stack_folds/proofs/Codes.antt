@@ -8,7 +8,9 @@ use mathlib.Core.Bool.{false}
 use Rattle.terms.specs.declared.Refusal.{Refusal}
 use Rattle.stack_folds.specs.declared.Count.{Count}
 use Rattle.stack_folds.specs.declared.Extent.{Extent}
-use Rattle.stack_folds.specs.Codes.{count_code, count_of_code, outline_code, outline_of_code, PlainCount, PlainOutline}
+use Rattle.stack_folds.specs.declared.Stacking.{Stacking}
+use Rattle.cells.specs.declared.Stacks.{Stacks}
+use Rattle.stack_folds.specs.Codes.{count_code, count_of_code, outline_code, outline_of_code, stacks_code, stacks_of_code, PlainCount, PlainOutline, PlainStacks}
 
 some_number : (k : Refusal) → eqb (number_of k) 0 ≡ false
 some_number Refusal.WrongFile = refl
@@ -22,6 +24,7 @@ some_number Refusal.ShortBuffer = refl
 some_number Refusal.Unmeetable = refl
 some_number Refusal.BrokenFolding = refl
 some_number Refusal.BadMark = refl
+some_number Refusal.RowSize = refl
 
 pub outline_said : (a : Result Outline Refusal) → outline_of_code (outline_code (answer_of a)) ≡ answer_of a
 outline_said (Ok o) = refl
@@ -31,9 +34,16 @@ pub count_said : (a : Result ℕ Refusal) → count_of_code (count_code (answer_
 count_said (Ok n) = refl
 count_said (Err k) = rw (some_number k)
 
+pub stacks_said : (a : Result Stacks Refusal) → stacks_of_code (stacks_code (answer_of a)) ≡ answer_of a
+stacks_said (Ok s) = refl
+stacks_said (Err k) = rw (some_number k)
+
 -- Numbers that were made from an answer are 0 beside a refusal.
 pub plain_outline : (e : Extent) (a : Result Outline Refusal) → e ≡ outline_code (answer_of a) → PlainOutline e
 plain_outline e a h = h ∙ ap outline_code (sym (ap outline_of_code h ∙ outline_said a))
 
 pub plain_count : (n : Count) (a : Result ℕ Refusal) → n ≡ count_code (answer_of a) → PlainCount n
 plain_count n a h = h ∙ ap count_code (sym (ap count_of_code h ∙ count_said a))
+
+pub plain_stacks : (s : Stacking) (a : Result Stacks Refusal) → s ≡ stacks_code (answer_of a) → PlainStacks s
+plain_stacks s a h = h ∙ ap stacks_code (sym (ap stacks_of_code h ∙ stacks_said a))

@@ -1,4 +1,4 @@
--- Answers in numbers, as C and Rust receive them. A refusal is its number, 1 to 11; a result has the refusal 0. So the two
+-- Answers in numbers, as C and Rust receive them. A refusal is its number, 1 to 12; a result has the refusal 0. So the two
 -- cannot be confused.
 use Rattle.std.specs.Prelude.{ℕ, ◌+◌, ◌-◌, ◌*◌, ◌≡◌, List, [], Bool, true, false, Option, Some, None, cond, ◌&&◌, length, take, leb, eqb}
 use Rattle.std.specs.declared.ops.Range.{Range}
@@ -10,9 +10,11 @@ use Rattle.stack.specs.File.{version_of, bytes_each}
 use Rattle.folding.specs.declared.Outline.{Outline}
 use Rattle.folding.specs.declared.Winner.{Winner}
 use Rattle.folding.specs.declared.Winner.TheVariants.{First, Second}
+use Rattle.cells.specs.declared.Stacks.{Stacks}
 use Rattle.stack_folds.specs.declared.Count.{Count}
 use Rattle.stack_folds.specs.declared.Extent.{Extent}
 use Rattle.stack_folds.specs.declared.Part.{Part}
+use Rattle.stack_folds.specs.declared.Stacking.{Stacking}
 
 abbrev pub kind_of : Bool → Kind
 kind_of true = Nested
@@ -26,6 +28,10 @@ abbrev pub outline_code : Answer Outline → Extent
 outline_code (refusal k) = record { refusal = k; width = 0; height = 0 }
 outline_code (result o) = record { refusal = 0; width = o.width.0; height = o.height.0 }
 
+abbrev pub stacks_code : Answer Stacks → Stacking
+stacks_code (refusal k) = record { refusal = k; count = 0; height = 0 }
+stacks_code (result s) = record { refusal = 0; count = s.count; height = s.height.0 }
+
 -- What the numbers say.
 abbrev pub count_of_code : Count → Answer ℕ
 count_of_code c = cond (eqb c.refusal 0) (result c.count) (refusal c.refusal)
@@ -36,12 +42,18 @@ outline_of_code e =
     (result (record { width = record { 0 = e.width }; height = record { 0 = e.height } }))
     (refusal e.refusal)
 
+abbrev pub stacks_of_code : Stacking → Answer Stacks
+stacks_of_code s = cond (eqb s.refusal 0) (result (record { count = s.count; height = record { 0 = s.height } })) (refusal s.refusal)
+
 -- The numbers beside a refusal are 0.
 abbrev pub PlainCount : Count → Type 0
 PlainCount c = c ≡ count_code (count_of_code c)
 
 abbrev pub PlainOutline : Extent → Type 0
 PlainOutline e = e ≡ outline_code (outline_of_code e)
+
+abbrev pub PlainStacks : Stacking → Type 0
+PlainStacks s = s ≡ stacks_code (stacks_of_code s)
 
 -- A part of a buffer, as a start and a length.
 abbrev pub range_code : Range ℕ → Part

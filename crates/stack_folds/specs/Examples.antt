@@ -6,7 +6,7 @@ use Rattle.terms.specs.Answer.{refusal, result}
 use Rattle.terms.specs.Component.{every, stack_of, tabulate, count_of}
 use Rattle.stack.specs.File.{header_of, check_of}
 use Rattle.folding.specs.declared.Winner.TheVariants.{First, Second}
-use Rattle.stack_folds.specs.Codes.{kind_of, count_code, outline_code, part_code, choice_code, chosen_part}
+use Rattle.stack_folds.specs.Codes.{kind_of, count_code, outline_code, stacks_code, part_code, choice_code, chosen_part}
 
 -- false is apart, true is nested
 kinds : (kind_of false ≡ Apart) × (kind_of true ≡ Nested)
@@ -24,6 +24,12 @@ outlined = refl
 
 not_outlined : outline_code (refusal 9) ≡ record { refusal = 9; width = 0; height = 0 }
 not_outlined = refl
+
+stacked : stacks_code (result (record { count = 3; height = record { 0 = 4 } })) ≡ record { refusal = 0; count = 3; height = 4 }
+stacked = refl
+
+not_stacked : stacks_code (refusal 12) ≡ record { refusal = 12; count = 0; height = 0 }
+not_stacked = refl
 
 -- 1 the first, 2 the second, 0 neither
 choices : (choice_code (Some First) ≡ 1) × (choice_code (Some Second) ≡ 2) × (choice_code None ≡ 0)

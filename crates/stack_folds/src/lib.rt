@@ -12,9 +12,12 @@ ghost use Rattle.folding.specs.Calls.{measure_of, winner_is, choose_of};
 ghost use Rattle.fold.specs.Calls.{ToHeight, ToWidth};
 ghost use Rattle.fold_area.specs.Calls.{SmallestOf};
 ghost use Rattle.fold_table.specs.Calls.{TableOf};
-ghost use Rattle.stack_folds.specs.Codes.{kind_of, count_code, outline_code, range_code, part_code, choice_code, chosen_part};
-ghost use Rattle.stack_folds.specs.Codes.{count_of_code, outline_of_code, PlainCount, PlainOutline};
+ghost use Rattle.cells.specs.Calls.{CellsToHeight, CellsToCount, NoneAtNine};
+ghost use Rattle.cells.specs.Apart.{ToHeightAsApart, ToCountAsApart};
+ghost use Rattle.stack_folds.specs.Codes.{kind_of, count_code, outline_code, stacks_code, range_code, part_code, choice_code, chosen_part};
+ghost use Rattle.stack_folds.specs.Codes.{count_of_code, outline_of_code, stacks_of_code, PlainCount, PlainOutline, PlainStacks};
 
+use cells::Stacks;
 use folding::{Outline, Winner};
 use std::ops::Range;
 use terms::{Kind, Refusal, Rows, Slices};
@@ -33,6 +36,15 @@ pub struct Count {
 pub struct Extent {
     pub refusal: u32,
     pub width: u32,
+    pub height: u32,
+}
+
+// A refusal with count and height 0, or 0 and how many stacks of cells there are, and the height of the highest.
+#[repr(C)]
+#[derive(Clone, Copy, Debug, Default, PartialEq, Eq)]
+pub struct Stacking {
+    pub refusal: u32,
+    pub count: u32,
     pub height: u32,
 }
 
@@ -81,6 +93,24 @@ impl From<Result<Outline, Refusal>> for Extent {
                 refusal: k.number(),
                 width: 0,
                 height: 0,
+            },
+        }
+    }
+}
+
+impl From<Result<Stacks, Refusal>> for Stacking {
+    ghost from_gives = { λ r s. s ≡ stacks_code (answer_of r) };
+
+    fn from(answer: Result<Stacks, Refusal>) -> Stacking {
+        match answer {
+            Ok(stacks) => Stacking {
+                refusal: 0,
+                count: stacks.count,
+                height: stacks.height.0,
+            },
+            Err(k) => Stacking {
+                refusal: k.number(),
+                ..Stacking::default()
             },
         }
     }
@@ -219,4 +249,23 @@ pub fn folds_table(file: &[u8], nested: bool, pairs: &mut [u32], work: &mut [u32
 {
     let kind = kind_of(nested);
     fold_table::table(file, kind, pairs, work).into()
+}
+
+pub fn folds_cells_to_height(heights: &[u16], limit: u32, ends: &mut [u16]) -> Stacking
+    ensures cells_to_height { CellsToHeight heights.now limit
+        ends.old (stacks_of_code result) ends.new }
+    ensures none_at_nine { NoneAtNine heights.now limit (stacks_of_code result) }
+    ensures as_apart { ToHeightAsApart heights.now limit (stacks_of_code result) }
+    ensures plain_stacks { PlainStacks result }
+{
+    cells::cells_to_height(heights, Rows(limit), ends).into()
+}
+
+pub fn folds_cells_to_count(heights: &[u16], most: u32, ends: &mut [u16]) -> Stacking
+    ensures cells_to_count { CellsToCount heights.now most
+        ends.old (stacks_of_code result) ends.new }
+    ensures as_apart { ToCountAsApart heights.now most (stacks_of_code result) }
+    ensures plain_stacks { PlainStacks result }
+{
+    cells::cells_to_count(heights, most, ends).into()
 }

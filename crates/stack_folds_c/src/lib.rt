@@ -12,9 +12,11 @@ ghost use Rattle.fold.specs.Calls.{ToHeight, ToWidth};
 ghost use Rattle.fold_area.specs.Calls.{SmallestOf};
 ghost use Rattle.fold_table.specs.Calls.{TableOf};
 ghost use Rattle.stack_folds.specs.Codes.{kind_of, count_code, outline_code, part_code, choice_code, chosen_part};
-ghost use Rattle.stack_folds.specs.Codes.{count_of_code, outline_of_code, PlainCount, PlainOutline};
+ghost use Rattle.cells.specs.Calls.{CellsToHeight, CellsToCount, NoneAtNine};
+ghost use Rattle.cells.specs.Apart.{ToHeightAsApart, ToCountAsApart};
+ghost use Rattle.stack_folds.specs.Codes.{count_of_code, outline_of_code, stacks_of_code, PlainCount, PlainOutline, PlainStacks};
 
-use stack_folds::{Count, Extent, Part};
+use stack_folds::{Count, Extent, Part, Stacking};
 
 #[unsafe(no_mangle)]
 pub extern "C" fn folds_check(file: &[u8], nested: bool) -> Count
@@ -136,4 +138,25 @@ pub extern "C" fn folds_table(
     ensures plain_count { PlainCount result }
 {
     stack_folds::folds_table(file, nested, pairs, work)
+}
+
+#[unsafe(no_mangle)]
+pub extern "C" fn folds_cells_to_height(heights: &[u16], limit: u32, ends: &mut [u16]) -> Stacking
+    ensures cells_to_height { CellsToHeight heights.now limit
+        ends.old (stacks_of_code result) ends.new }
+    ensures none_at_nine { NoneAtNine heights.now limit (stacks_of_code result) }
+    ensures as_apart { ToHeightAsApart heights.now limit (stacks_of_code result) }
+    ensures plain_stacks { PlainStacks result }
+{
+    stack_folds::folds_cells_to_height(heights, limit, ends)
+}
+
+#[unsafe(no_mangle)]
+pub extern "C" fn folds_cells_to_count(heights: &[u16], most: u32, ends: &mut [u16]) -> Stacking
+    ensures cells_to_count { CellsToCount heights.now most
+        ends.old (stacks_of_code result) ends.new }
+    ensures as_apart { ToCountAsApart heights.now most (stacks_of_code result) }
+    ensures plain_stacks { PlainStacks result }
+{
+    stack_folds::folds_cells_to_count(heights, most, ends)
 }

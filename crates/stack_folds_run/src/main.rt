@@ -1,9 +1,11 @@
-// Runs the ten calls on stack E, on E with a fold barred and on refused files, and writes their numbers, a line a case.
+// Runs the twelve calls on stack E, on E with a fold barred, on refused files and on a row of cells, and writes their numbers,
+// a line a case.
 #![tactic(auto)]
 
 use stack_folds::{
-    Count, Extent, Part, folds_check, folds_choose, folds_lookup, folds_measure, folds_read,
-    folds_smallest_area, folds_table, folds_to_height, folds_to_width, folds_write,
+    Count, Extent, Part, Stacking, folds_cells_to_count, folds_cells_to_height, folds_check,
+    folds_choose, folds_lookup, folds_measure, folds_read, folds_smallest_area, folds_table,
+    folds_to_height, folds_to_width, folds_write,
 };
 use std::fmt;
 use std::io::{self, BufWriter, Write};
@@ -27,6 +29,9 @@ const LAST: [u8; 15] = *b"STK\x02\0\x01\0\x01\0\x01\0\0\0\x01\0";
 const FLAT: [u32; 12] = [0, 0, 3, 0, 0, 2, 0, 0, 1, 0, 0, 0];
 
 const FOLDED: [u32; 12] = [0, 0, 1, 0, 0, 0, 0, 1, 0, 0, 1, 2];
+
+// A row of cells. At most 7 high they stand in two stacks in one way only, and in four at most 4 high.
+const CELLS: [u16; 6] = [3, 1, 2, 2, 4, 1];
 
 // A file, whether it is folded nested, and what its lines begin with.
 #[derive(Clone, Copy, Debug, PartialEq, Eq)]
@@ -202,6 +207,35 @@ impl Stack<'_> {
     }
 }
 
+fn say_stacks(out: &mut impl Write, call: &str, stacks: Stacking, ends: &[u16]) -> io::Result<()> {
+    let Stacking {
+        refusal,
+        count,
+        height,
+    } = stacks;
+    writeln!(
+        out,
+        "cells {call} {refusal} {count} {height}, ends{}",
+        Spaced(ends)
+    )
+}
+
+// A place more than there are cells, one, or none.
+fn cell_cases(out: &mut impl Write) -> io::Result<()> {
+    let mut ends = [9u16; 7];
+    let low = folds_cells_to_height(&CELLS, 3, &mut ends);
+    say_stacks(out, "to height 3", low, &ends)?;
+    let two = folds_cells_to_height(&CELLS, 7, &mut ends);
+    say_stacks(out, "to height 7", two, &ends)?;
+    let four = folds_cells_to_count(&CELLS, 6, &mut ends);
+    say_stacks(out, "to count 6", four, &ends)?;
+    let mut place = [9u16; 1];
+    let short = folds_cells_to_count(&CELLS, 2, &mut place);
+    say_stacks(out, "to count 2", short, &place)?;
+    let none = folds_cells_to_height(&[], 0, &mut place);
+    say_stacks(out, "none", none, &place)
+}
+
 fn main(rt: HostRuntime) -> io::Result<()> {
     let mut out = BufWriter::new(rt.alloc(), io::writer(&rt))?;
     file_cases(&mut out)?;
@@ -215,5 +249,6 @@ fn main(rt: HostRuntime) -> io::Result<()> {
     for stack in STACKS {
         stack.table_case(&mut out)?;
     }
+    cell_cases(&mut out)?;
     out.flush()
 }

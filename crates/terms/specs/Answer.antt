@@ -30,6 +30,7 @@ number_of Refusal.ShortBuffer = 8
 number_of Refusal.Unmeetable = 9
 number_of Refusal.BrokenFolding = 10
 number_of Refusal.BadMark = 11
+number_of Refusal.RowSize = 12
 
 -- The trade words as text.
 abbrev pub trade_word : Refusal → List ℕ
@@ -44,6 +45,7 @@ trade_word Refusal.ShortBuffer = codes "short buffer"
 trade_word Refusal.Unmeetable = codes "unmeetable"
 trade_word Refusal.BrokenFolding = codes "broken folding"
 trade_word Refusal.BadMark = codes "bad fold mark"
+trade_word Refusal.RowSize = codes "row size"
 
 -- The answer of a call: its result, or the number of its refusal.
 abbrev pub answer_of : {A : Type 0} → Result A Refusal → Answer A

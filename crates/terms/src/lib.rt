@@ -76,6 +76,7 @@ pub enum Refusal {
     Unmeetable = 9,
     BrokenFolding = 10,
     BadMark = 11,
+    RowSize = 12,
 }
 
 // Where reading or writing stands: how many components lie before.
@@ -128,6 +129,7 @@ impl fmt::Display for Refusal {
             Refusal::Unmeetable => f.write_str("unmeetable"),
             Refusal::BrokenFolding => f.write_str("broken folding"),
             Refusal::BadMark => f.write_str("bad fold mark"),
+            Refusal::RowSize => f.write_str("row size"),
         }
     }
 }
@@ -163,7 +165,8 @@ pub fn most(kind: Kind) -> usize
     }
 }
 
-fn in_size(x: u32) -> bool
+// Whether a height or a width is in its range.
+pub fn in_size(x: u32) -> bool
     ensures { result ≡ in_size x }
 {
     (1..=MOST_SIZE).contains(&x)

@@ -1,11 +1,13 @@
 //! Times both folds and the table, next to document 001's own method on the same stacks, both folds over a sweep of
 //! limits, the smallest area, and measuring; checks that all find the same outlines. Prints the tables of
 //! docs/PERFORMANCE.md, and as each row is done a line to standard error. Arguments: --measure, to time measuring alone;
-//! --marks, to time only stacks with barred folds, beside the same without marks. With a file behind it: --picture, where
-//! to write the plot; --before, the figures of an earlier run to show beside these; --keep, where to write the figures of
-//! this one.
+//! --marks, to time only stacks with barred folds, beside the same without marks; --cells, to time only rows of standard
+//! cells. With a file behind it: --picture, where to write the plot; --before, the figures of an earlier run to show beside
+//! these; --keep, where to write the figures of this one.
 
 mod barred;
+mod cell_rows;
+mod cells;
 mod clock;
 mod figures;
 mod growth;
@@ -14,6 +16,7 @@ mod marks;
 mod measuring;
 mod panels;
 mod paper;
+mod paper_cells;
 mod plot;
 mod report;
 #[allow(dead_code)] // the comparison draws in more ways
@@ -40,6 +43,9 @@ const CELL: f64 = 12.0;
 fn main() {
     if env::args().any(|word| word == "--measure") {
         return measuring::print();
+    }
+    if env::args().any(|word| word == "--cells") {
+        return cells::print();
     }
     // Read first: a file that cannot be read should not cost a whole run.
     let before = named("--before").map(|path| figures::rows(&fs::read_to_string(path).expect("the figures are read")));

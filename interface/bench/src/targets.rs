@@ -43,7 +43,7 @@ pub fn print(nested: &[Row], apart: &[Row], before: &[Row]) {
 }
 
 /// What is asked and whether it is met.
-fn verdict(asked: Option<(String, bool)>) -> String {
+pub fn verdict(asked: Option<(String, bool)>) -> String {
     match asked {
         Some((what, met)) => format!("{what} | {}", if met { "yes" } else { "no" }),
         None => "– | –".into(),

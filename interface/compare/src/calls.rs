@@ -1,5 +1,6 @@
 //! Each call of the library, held to the own rules: its answer, and that buffers change only where they may.
 
+use crate::cells::{self, Keep, Stacks};
 use crate::front::{Aim, Toward};
 use crate::measure::{self, Outline};
 use crate::rng::Rng;
@@ -61,14 +62,14 @@ pub struct Caller {
     /// What the last call left in its work buffer: it means something to the library, as noise does not.
     left: Vec<u32>,
     /// Calls made, by the refusal that they gave; 0 is a result.
-    pub answers: [u64; 12],
+    pub answers: [u64; 13],
 }
 
 impl Caller {
     pub fn new(seed: u64) -> Caller {
         let mut rng = Rng(seed);
         let noise = (0..1 << 16).map(|_| rng.next()).collect();
-        Caller { rng, noise, left: Vec::new(), answers: [0; 12] }
+        Caller { rng, noise, left: Vec::new(), answers: [0; 13] }
     }
 
     fn lend<T: Copy>(&mut self, length: usize, cut: fn(u64) -> T) -> Lent<T> {
@@ -224,6 +225,39 @@ impl Caller {
         same("the table's order", order, true)?;
         Ok(Ok(table))
     }
+
+    /// The answer is held to all that needs no search: its refusals, but whether there is an 8, and that stacks end where the
+    /// list says, are those told and keep the limit.
+    pub fn cells(&mut self, row: &[u16], keep: Keep, room: usize) -> Compared<Answer<Stacks>> {
+        self.held_cells(row, keep, room)
+            .map_err(|what| format!("{what}\n{keep:?}, {room} places for the ends of stacks"))
+    }
+
+    fn held_cells(&mut self, row: &[u16], keep: Keep, room: usize) -> Compared<Answer<Stacks>> {
+        let mut ends = self.lend(room, |noise| noise as u16);
+        let answer = match keep {
+            Keep::Height(limit) => raw::cells_to_height(row, limit, &mut ends.now),
+            Keep::Count(most) => raw::cells_to_count(row, most, &mut ends.now),
+        };
+        self.told(answer.refusal)?;
+        let answer = stacked(answer)?;
+        let own = rules::cells(row, keep);
+        let Ok(stacks) = answer else {
+            // No row has more stacks than cells.
+            let short = if room < row.len() { own.and(Err(8)) } else { own };
+            same("cells", answer.map(|_| ()), short)?;
+            ends.unchanged_from(0, "the ends of refused stacks")?;
+            return Ok(answer);
+        };
+        same("cells", Ok(()), own)?;
+        let count = stacks.count as usize;
+        same("there is a place for each stack", count <= room, true)?;
+        ends.unchanged_from(count, "the ends of stacks")?;
+        same("the stacks that end there", Some(stacks), cells::measured(row, &ends.now[..count]))
+            .map_err(|what| format!("{what}\nends {:?}", &ends.now[..count.min(300)]))?;
+        same("the limit is kept", keep.keeps(stacks), true)?;
+        Ok(answer)
+    }
 }
 
 fn counted(answer: raw::Count) -> Answer<usize> {
@@ -242,5 +276,14 @@ fn outlined(answer: raw::Outline) -> Compared<Answer<Outline>> {
         return Ok(Ok(outline));
     }
     same("a refusal's outline", outline, Outline { width: 0, height: 0 })?;
+    Ok(Err(answer.refusal))
+}
+
+fn stacked(answer: raw::Stacks) -> Compared<Answer<Stacks>> {
+    let stacks = Stacks { count: answer.count, height: answer.height };
+    if answer.refusal == 0 {
+        return Ok(Ok(stacks));
+    }
+    same("the count and height of a refusal", stacks, Stacks { count: 0, height: 0 })?;
     Ok(Err(answer.refusal))
 }

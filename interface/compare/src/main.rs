@@ -1,6 +1,7 @@
 //! Compares the library with implementations that share nothing with it. Argument: a seed. Status 1 on a difference.
 
 mod calls;
+mod cells;
 mod damage;
 mod enumerate;
 mod front;
@@ -55,8 +56,23 @@ fn main() -> ExitCode {
 }
 
 /// Each compares one part and tells what that was.
-const PARTS: [fn(&mut Caller) -> Compared<String>; 10] =
-    [known, damaged, measured, enumerated, searched, marked, scaled, long, longest, many_lines];
+const PARTS: [fn(&mut Caller) -> Compared<String>; 15] = [
+    known,
+    damaged,
+    measured,
+    enumerated,
+    searched,
+    marked,
+    scaled,
+    long,
+    longest,
+    many_lines,
+    cells::damaged,
+    cells::enumerated,
+    cells::tabled,
+    cells::beside_apart,
+    cells::long,
+];
 
 fn all(caller: &mut Caller) -> Compared<()> {
     let start = Instant::now();

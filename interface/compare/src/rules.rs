@@ -1,11 +1,14 @@
-//! Document 01's refusals with ticket 3's, call by call: the first condition of a list that holds gives the number.
+//! Document 01's refusals with those of tickets 3 and 4, call by call: the first condition of a list that holds gives the number.
 
+use crate::cells::Keep;
 use crate::front::Aim;
 use crate::measure::{outline, Outline};
 use crate::stack::{self, Component};
 
 pub const WORK: usize = 8192;
 pub const LAST_LIMIT: u32 = 2_000_000;
+pub const MOST_CELLS: usize = 60_000;
+pub const LAST_ROW_LIMIT: u32 = 240_000_000;
 
 /// A result or a refusal's number.
 pub type Answer<T> = Result<T, u32>;
@@ -114,4 +117,14 @@ pub fn table(file: &[u8], nested: bool, work: usize) -> Answer<Vec<Component>> {
     let stack = check(file, nested)?;
     refuse(&[(8, work < WORK)])?;
     Ok(stack)
+}
+
+/// Whether there are stacks of a row that keep the limit. Then only 8 may refuse them; so 9 comes before it.
+pub fn cells(heights: &[u16], keep: Keep) -> Answer<()> {
+    refuse(&[
+        (12, heights.is_empty() || heights.len() > MOST_CELLS),
+        (5, heights.iter().any(|height| !(1..=4000).contains(height))),
+        (7, !(1..=LAST_ROW_LIMIT).contains(&keep.limit())),
+        (9, matches!(keep, Keep::Height(limit) if heights.iter().any(|height| u32::from(*height) > limit))),
+    ])
 }

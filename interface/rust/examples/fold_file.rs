@@ -1,13 +1,20 @@
-//! Folds a stack file and prints the outline and the placements, or prints its outline table.
-//! Arguments: FILE apart|nested height|width LIMIT, or FILE apart|nested area|table
-use stack_folds::{smallest_area, table, to_height, to_width, Folding, Kind, Outline, Rows, Side, Slices};
+//! Folds a stack file and prints the outline and the placements, or prints its outline table. Or stacks a row of cells
+//! of the heights given, and prints how many stacks there are, how high they are and where each ends.
+//! Arguments: FILE apart|nested height|width LIMIT, or FILE apart|nested area|table,
+//! or cells height|count LIMIT HEIGHT..
+use stack_folds::{cells_to_count, cells_to_height, smallest_area, table, to_height, to_width};
+use stack_folds::{Folding, Kind, Outline, Rows, Side, Slices, Stacks};
 use std::{env, error::Error, fs, process::ExitCode};
 
-const USAGE: &str =
-    "usage: fold_file FILE apart|nested height|width LIMIT\n       fold_file FILE apart|nested area|table";
+const USAGE: &str = "usage: fold_file FILE apart|nested height|width LIMIT
+       fold_file FILE apart|nested area|table
+       fold_file cells height|count LIMIT HEIGHT..";
 
 fn run(words: &[String]) -> Result<(), Box<dyn Error>> {
     let [path, kind, what, rest @ ..] = words else { return Err(USAGE.into()) };
+    if path == "cells" {
+        return cells(kind, what.parse()?, rest);
+    }
     let kind = match kind.as_str() {
         "apart" => Kind::Apart,
         "nested" => Kind::Nested,
@@ -22,6 +29,23 @@ fn run(words: &[String]) -> Result<(), Box<dyn Error>> {
         _ => return Err(USAGE.into()),
     }
     Ok(())
+}
+
+fn cells(toward: &str, limit: u32, heights: &[String]) -> Result<(), Box<dyn Error>> {
+    let heights = heights.iter().map(|height| height.parse()).collect::<Result<Vec<u16>, _>>()?;
+    match toward {
+        "height" => print_stacks(&cells_to_height(&heights, Rows(limit))?),
+        "count" => print_stacks(&cells_to_count(&heights, limit)?),
+        _ => return Err("the limit is a height or a count".into()),
+    }
+    Ok(())
+}
+
+fn print_stacks(stacks: &Stacks) {
+    println!("stacks {} height {}", stacks.ends.len(), stacks.height.0);
+    for (i, end) in stacks.ends.iter().enumerate() {
+        println!("S{} ends with cell {end}", i + 1);
+    }
 }
 
 fn print_outline(outline: &Outline) {

@@ -1,6 +1,6 @@
 //! Foldings of a bit-sliced stack: reads and writes stack files, measures foldings, finds the best one for a height or a
-//! width and the one of smallest area, and lists the unbeaten outlines. Rows and slices are types of their own, so a
-//! height cannot be passed as a width.
+//! width and the one of smallest area, and lists the unbeaten outlines. It puts rows of standard cells into the
+//! fewest or the lowest stacks. Rows and slices are types of their own, so a height cannot be passed as a width.
 //!
 //! ```
 //! use stack_folds::{to_height, write, Component, Kind, Rows, Slices};
@@ -76,6 +76,15 @@ pub struct Folding {
     pub outline: Outline,
 }
 
+/// Stacks of a row of cells: runs of cells, none empty, that hold all of them in their order.
+#[derive(Clone, Debug, PartialEq, Eq)]
+pub struct Stacks {
+    /// The number, from 1, of each stack's last cell.
+    pub ends: Vec<u16>,
+    /// The height of the highest one.
+    pub height: Rows,
+}
+
 /// Why there is no result.
 #[derive(Clone, Copy, Debug, PartialEq, Eq, Hash)]
 pub enum Refusal {
@@ -90,10 +99,11 @@ pub enum Refusal {
     Unmeetable = 9,
     BrokenFolding = 10,
     BadFoldMark = 11,
+    RowSize = 12,
 }
 
 impl Refusal {
-    const ALL: [Refusal; 11] = [
+    const ALL: [Refusal; 12] = [
         Refusal::WrongFile,
         Refusal::WrongVersion,
         Refusal::WrongLength,
@@ -105,6 +115,7 @@ impl Refusal {
         Refusal::Unmeetable,
         Refusal::BrokenFolding,
         Refusal::BadFoldMark,
+        Refusal::RowSize,
     ];
 
     /// The refusal's number.
@@ -114,7 +125,7 @@ impl Refusal {
 
     /// The refusal's trade word.
     pub fn word(self) -> &'static str {
-        const WORDS: [&str; 11] = [
+        const WORDS: [&str; 12] = [
             "wrong file",
             "wrong version",
             "wrong length",
@@ -126,6 +137,7 @@ impl Refusal {
             "unmeetable",
             "broken folding",
             "bad fold mark",
+            "row size",
         ];
         WORDS[self as usize - 1]
     }
@@ -220,6 +232,16 @@ pub fn table(file: &[u8], kind: Kind) -> Result<Vec<Outline>, Refusal> {
     Ok(pairs.chunks_exact(2).take(count).map(|p| outline(p[0], p[1])).collect())
 }
 
+/// The fewest stacks, at most `limit` high, of a row of cells of these heights. Refusals 12, 5, 7, 9.
+pub fn cells_to_height(heights: &[u16], limit: Rows) -> Result<Stacks, Refusal> {
+    stacked(heights, |ends| raw::cells_to_height(heights, limit.0, ends))
+}
+
+/// The lowest stacks, at most `most`, of a row of cells of these heights, and of those the fewest. Refusals 12, 5, 7.
+pub fn cells_to_count(heights: &[u16], most: u32) -> Result<Stacks, Refusal> {
+    stacked(heights, |ends| raw::cells_to_count(heights, most, ends))
+}
+
 fn fold(
     file: &[u8], kind: Kind, call: impl FnOnce(&mut [u32], &mut [u32]) -> raw::Outline,
 ) -> Result<Folding, Refusal> {
@@ -227,6 +249,15 @@ fn fold(
     let (mut placements, mut work) = (vec![0; 3 * n], vec![0; raw::WORK]);
     let outline = outlined(call(&mut placements, &mut work))?;
     Ok(Folding { placements: placements.chunks_exact(3).map(placement).collect(), outline })
+}
+
+/// Lends a place for each cell, as many as there can be stacks, so 8 is never answered.
+fn stacked(heights: &[u16], call: impl FnOnce(&mut [u16]) -> raw::Stacks) -> Result<Stacks, Refusal> {
+    let mut ends = vec![0; heights.len()];
+    let answer = call(&mut ends);
+    Refusal::unless(answer.refusal)?;
+    ends.truncate(answer.count as usize);
+    Ok(Stacks { ends, height: Rows(answer.height) })
 }
 
 fn nested(kind: Kind) -> bool {
@@ -279,6 +310,7 @@ mod tests {
         assert!(HEADER.contains(&format!("#define FOLDS_WORK {}\n", raw::WORK)));
         assert!(HEADER.contains("#define FOLDS_PAIRS(n) ((size_t)2 * 4000 * (n))\n"));
         assert_eq!(raw::pairs(1), 2 * 4000);
+        assert!(HEADER.contains(&format!("#define FOLDS_MOST_CELLS {}\n", raw::MOST_CELLS)));
     }
 
     #[test]
@@ -353,5 +385,58 @@ mod tests {
             assert_eq!(measure(&file, Kind::Nested, &parted), Err(Refusal::BrokenFolding));
             assert!(choose(&file, Kind::Nested, &parted, &parted).is_none());
         }
+    }
+
+    const CELLS: [u16; 6] = [3, 1, 2, 2, 4, 1];
+
+    /// The ends are checked where no others are as few and as low.
+    #[test]
+    fn cells_in_the_fewest_stacks_of_a_height() {
+        let stacks = |limit| cells_to_height(&CELLS, Rows(limit)).map(|s| (s.ends.len(), s.height.0));
+        assert_eq!(stacks(4), Ok((4, 4)));
+        assert_eq!(stacks(5), Ok((3, 5)));
+        assert_eq!(stacks(7), Ok((2, 7)));
+        assert_eq!(cells_to_height(&CELLS, Rows(7)).unwrap().ends, [3, 6]);
+        assert_eq!(cells_to_height(&CELLS, Rows(240_000_000)), Ok(Stacks { ends: vec![6], height: Rows(13) }));
+    }
+
+    #[test]
+    fn cells_in_the_lowest_stacks_of_a_number() {
+        let stacks = |most| cells_to_count(&CELLS, most).map(|s| (s.ends.len(), s.height.0));
+        assert_eq!(stacks(1), Ok((1, 13)));
+        assert_eq!(cells_to_count(&CELLS, 2), Ok(Stacks { ends: vec![3, 6], height: Rows(7) }));
+        assert_eq!(stacks(3), Ok((3, 5)));
+        // Beyond the fewest stacks as low as the tallest cell no more are made.
+        for most in [4, 6, 7, 240_000_000] {
+            assert_eq!(stacks(most), Ok((4, 4)));
+        }
+    }
+
+    #[test]
+    fn cells_stand_as_apart_components_do() {
+        let file = write(&stack(CELLS.map(|height| (height.into(), 1)))).unwrap();
+        for limit in 1..=14 {
+            let width = to_height(&file, Kind::Apart, Rows(limit)).map(|folding| folding.outline.width.0 as usize);
+            assert_eq!(cells_to_height(&CELLS, Rows(limit)).map(|stacks| stacks.ends.len()), width);
+            let height = to_width(&file, Kind::Apart, Slices(limit)).map(|folding| folding.outline.height);
+            assert_eq!(cells_to_count(&CELLS, limit).map(|stacks| stacks.height), height);
+        }
+    }
+
+    #[test]
+    fn rows_of_cells_are_refused_in_order() {
+        let both = |heights: &[u16], limit| {
+            let answer = cells_to_height(heights, Rows(limit));
+            [answer.map(|stacks| stacks.ends.len()), cells_to_count(heights, limit).map(|stacks| stacks.ends.len())]
+        };
+        let most = raw::MOST_CELLS;
+        assert_eq!(both(&[], 0), [Err(Refusal::RowSize); 2]);
+        assert_eq!(both(&vec![0; most + 1], 0), [Err(Refusal::RowSize); 2]);
+        assert_eq!(both(&[1, 0], 0), [Err(Refusal::BadComponent); 2]);
+        assert_eq!(both(&[4001, 1], 0), [Err(Refusal::BadComponent); 2]);
+        assert_eq!(both(&[1, 1], 0), [Err(Refusal::BadLimit); 2]);
+        assert_eq!(both(&[1, 1], 240_000_001), [Err(Refusal::BadLimit); 2]);
+        assert_eq!(both(&[1, 2], 1), [Err(Refusal::Unmeetable), Ok(1)]);
+        assert_eq!(both(&vec![4000; most], 4000), [Ok(most), Ok(4000)]);
     }
 }

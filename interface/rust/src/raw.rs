@@ -17,6 +17,15 @@ pub struct Outline {
     pub height: u32,
 }
 
+/// A refusal's number with count and height 0, or 0, the number of stacks and the height of the highest.
+#[repr(C)]
+#[derive(Clone, Copy, Debug, PartialEq, Eq)]
+pub struct Stacks {
+    pub refusal: u32,
+    pub count: u32,
+    pub height: u32,
+}
+
 /// A part of a lent buffer; the empty part is 0, 0.
 #[repr(C)]
 #[derive(Clone, Copy, Debug, PartialEq, Eq)]
@@ -28,6 +37,9 @@ pub struct Part {
 /// The least length of a work buffer.
 pub const WORK: usize = 8192;
 
+/// The most cells of a row; so many places hold the ends of the stacks of every row.
+pub const MOST_CELLS: usize = 60000;
+
 /// So many numbers hold the table of every stack of n components: it has no more pairs than the widths add up to.
 pub fn pairs(n: usize) -> usize {
     2 * 4000 * n
@@ -37,7 +49,7 @@ pub fn pairs(n: usize) -> usize {
 // together, on the stack where a single register is left, and the library takes them apart. So it is for the last slice
 // of folds_choose, of folds_smallest_area and of folds_table.
 mod c {
-    use super::{Count, Outline, Part};
+    use super::{Count, Outline, Part, Stacks};
     extern "C" {
         pub fn folds_check(file: *const u8, file_len: usize, nested: bool) -> Count;
         pub fn folds_read(
@@ -72,10 +84,16 @@ mod c {
             file: *const u8, file_len: usize, nested: bool, pairs: *mut u32, pairs_len: usize, work: *mut u32,
             work_len: usize,
         ) -> Count;
+        pub fn folds_cells_to_height(
+            heights: *const u16, heights_len: usize, limit: u32, ends: *mut u16, ends_len: usize,
+        ) -> Stacks;
+        pub fn folds_cells_to_count(
+            heights: *const u16, heights_len: usize, most: u32, ends: *mut u16, ends_len: usize,
+        ) -> Stacks;
     }
 }
 
-// SAFETY, for all ten: a slice has as many elements as it says, is aligned and is not null; those that the library
+// SAFETY, for all twelve: a slice has as many elements as it says, is aligned and is not null; those that the library
 // writes are lent mutably, so none overlaps another; and the library is proved to stay inside them for every input.
 
 pub fn check(file: &[u8], nested: bool) -> Count {
@@ -181,4 +199,12 @@ pub fn table(file: &[u8], nested: bool, pairs: &mut [u32], work: &mut [u32]) -> 
             work.len(),
         )
     }
+}
+
+pub fn cells_to_height(heights: &[u16], limit: u32, ends: &mut [u16]) -> Stacks {
+    unsafe { c::folds_cells_to_height(heights.as_ptr(), heights.len(), limit, ends.as_mut_ptr(), ends.len()) }
+}
+
+pub fn cells_to_count(heights: &[u16], most: u32, ends: &mut [u16]) -> Stacks {
+    unsafe { c::folds_cells_to_count(heights.as_ptr(), heights.len(), most, ends.as_mut_ptr(), ends.len()) }
 }

@@ -1,0 +1,13 @@
+pub mod Heights
+pub mod Fills
+pub mod Fewest
+pub mod Least
+pub mod Putting
+pub mod Cells
+pub mod AsApart
+pub mod Sizing
+pub mod Bounds
+pub mod Ending
+pub mod Checking
+pub mod Answering
+pub mod Agreeing
