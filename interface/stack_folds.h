@@ -194,7 +194,7 @@ folds_count folds_table(const uint8_t *file, size_t file_len, bool nested,
  * call does, and where this call gives a result its width is count.
  * Writes the number of each stack's last cell, in order, to the first count places of ends; all beyond stays unchanged.
  * Refusals 12, 5, 7; 9 where a cell is higher than `limit`, however long ends is; 8 where ends has fewer places than
- * there are stacks. A refusal leaves ends unchanged. */
+ * there are stacks, and so never where it has one for each cell. A refusal leaves ends unchanged. */
 folds_stacks folds_cells_to_height(const uint16_t *heights, size_t heights_len, uint32_t limit,
                                    uint16_t *ends, size_t ends_len);
 
@@ -204,8 +204,8 @@ folds_stacks folds_cells_to_height(const uint16_t *heights, size_t heights_len, 
  * with all gaps and marks 0, and with buffers that are long enough, folds_to_width at the limit `most` gives the same
  * height, where this call gives a result.
  * Writes the number of each stack's last cell, in order, to the first count places of ends; all beyond stays unchanged.
- * Refusals 12, 5, 7; 8 where ends has fewer places than there are stacks. There is always a result otherwise. A refusal
- * leaves ends unchanged. */
+ * Refusals 12, 5, 7; 8 where ends has fewer places than there are stacks, and so never where it has one for each cell.
+ * There is always a result otherwise. A refusal leaves ends unchanged. */
 folds_stacks folds_cells_to_count(const uint16_t *heights, size_t heights_len, uint32_t most,
                                   uint16_t *ends, size_t ends_len);
 

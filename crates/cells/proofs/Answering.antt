@@ -18,10 +18,11 @@ use Rattle.cells.proofs.Fewest.{filled_ends, filled_fewest}
 pub room_for_all : (hs : List ℕ) (limit n : ℕ) → RowAsks hs limit → length hs ≤ n → length (filled limit hs) ≤ n
 room_for_all hs limit n a l = omega (arith, l, count_most hs (filled limit hs) (filled_ends hs limit a.row.some a.tall))
 
-module _ (Best : List ℕ → Type 0) (hs : List ℕ) (limit : ℕ) (best : Best (filled limit hs)) where
+module _ (Best : List ℕ → Type 0) (hs : List ℕ) (limit : ℕ) (best : Best (filled limit hs)) (few : length (filled limit hs) ≤ length hs) where
   written : (ends new : List ℕ) (s : Stacks) → Ended hs limit ends new s → Written hs (filled limit hs) ends new s
   written ends new s e = record {
     fits = omega (arith, ap length e.written, length-take s.count new, e.stacks.count_is, e.same_length);
+    few = few;
     written =
         sym (take-append-drop s.count new)
         ∙ ap (λ (l : List ℕ). l ++ drop s.count new) e.written
@@ -31,7 +32,7 @@ module _ (Best : List ℕ → Type 0) (hs : List ℕ) (limit : ℕ) (best : Best
   }
 
   pub stacked : (ends new : List ℕ) (a : Answer Stacks) → StacksWritten hs limit ends new a → Stacked Best hs ends new a
-  stacked ends new (refusal k) p = (p.0, (filled limit hs, best, p.1), p.2)
+  stacked ends new (refusal k) p = (p.0, (filled limit hs, best, p.1, few), p.2)
   stacked ends new (result s) e = (filled limit hs, best, written ends new s e)
 
 -- For a height.
@@ -40,18 +41,18 @@ module _ (hs : List ℕ) (limit : ℕ) (asks : RowAsks hs limit) (ends new : Lis
   fewest = filled_fewest hs limit asks.row.some asks.tall
 
   pub to_height : (a : Answer Stacks) → row_of hs limit ≡ result hs → StacksWritten hs limit ends new a → CellsToHeight hs limit ends a new
-  to_height a e p = rw (e, le-ltb limit (tallest_cell hs) asks.tall) (stacked (FewestFor hs limit) hs limit fewest ends new a p)
+  to_height a e p = rw (e, le-ltb limit (tallest_cell hs) asks.tall) (stacked (FewestFor hs limit) hs limit fewest (room_for_all hs limit (length hs) asks (omega arith)) ends new a p)
 
 pub unmet : (hs : List ℕ) (limit : ℕ) (ends : List ℕ) → row_of hs limit ≡ result hs → limit < tallest_cell hs → CellsToHeight hs limit ends (refusal 9) ends
 unmet hs limit ends e l = rw (e, lt-ltb limit (tallest_cell hs) l) (refl, refl)
 
 -- For a number of stacks: those filled at the least height.
 module _ (hs : List ℕ) (most height : ℕ) (row : Row hs) (least : Between hs (min most (length hs)) height height) where
-  pub least_asks : RowAsks hs height
+  least_asks : RowAsks hs height
   least_asks = record { row = row; tall = least.tall; limit_most = least.hi_most }
 
   lowest : LowestFor hs most (filled height hs)
   lowest = lowest_for hs row.some most height least
 
   pub to_count : (ends new : List ℕ) (a : Answer Stacks) → row_of hs most ≡ result hs → StacksWritten hs height ends new a → CellsToCount hs most ends a new
-  to_count ends new a e p = rw e (stacked (LowestFor hs most) hs height lowest ends new a p)
+  to_count ends new a e p = rw e (stacked (LowestFor hs most) hs height lowest (room_for_all hs height (length hs) least_asks (omega arith)) ends new a p)

@@ -37,18 +37,19 @@ abbrev pub row_within : List ℕ → ℕ → Answer (List ℕ)
 row_within hs limit = and_then (row_of hs limit) (λ row. refuse_if (ltb limit (tallest_cell row)) 9 (result row))
 
 -- "It writes the last cell's number (from 1) of each stack, in order, and gives their count and greatest height": these ends
--- stand in the first places, and places past them are as before.
+-- stand in the first places, and places past them are as before. There are no more of them than cells.
 pub record Written (hs es ends ends' : List ℕ) (s : Stacks) : Type 0 where
   pub fits : length es ≤ length ends
+  pub few : length es ≤ length hs
   pub written : ends' ≡ es ++ drop (length es) ends
   pub count : s.count ≡ length es
   pub greatest : s.height.0 ≡ greatest_height hs es
 
 -- By which ends a call may write: "which cells end the stacks is otherwise free".
 module _ (Best : List ℕ → Type 0) where
-  -- 8 where the list has fewer places than there are stacks.
+  -- 8 where the list has fewer places than there are stacks, and so never where it has one for each cell.
   abbrev pub Stacked : List ℕ → List ℕ → List ℕ → Answer Stacks → Type 0
-  Stacked hs ends ends' (refusal k) = (k ≡ 8) × ((es : List ℕ) × Best es × (length ends < length es)) × (ends' ≡ ends)
+  Stacked hs ends ends' (refusal k) = (k ≡ 8) × ((es : List ℕ) × Best es × (length ends < length es) × (length es ≤ length hs)) × (ends' ≡ ends)
   Stacked hs ends ends' (result s) = (es : List ℕ) × Best es × Written hs es ends ends' s
 
   -- A refusal leaves the list as it was.
