@@ -5,7 +5,8 @@
  *   stack             components one above the other, C1 at the top to Cn at the bottom; their order never changes
  *   fold              a place behind a component where the stack is turned over, so that it goes on beside itself
  *   group             a run of components with at most one fold: left ones before it, right ones behind it
- *   apart, nested     the kinds of folding: apart groups have no right side, nested ones may have one
+ *   apart, nested     the kinds of folding: apart groups have no right side; nested ones have one, and only the last
+ *                     group of the folding may be without it
  *   outline           the width and the height of the rectangle that a folding needs
  *   unbeaten outline  one that a legal folding has, where every other is wider, or higher, or equal in both
  *
@@ -21,7 +22,9 @@
  * barred: in a legal folding a component with mark 1 has the same group and the same side as the next one. In version 1
  * all marks are 0. Components are numbered 1 to n.
  *
- * `nested` is the kind: false for apart, true for nested.
+ * `nested` is the kind: false for apart, true for nested. Cells may be turned by half a turn and not mirrored, so nested
+ * stacks face left and right by turns: that is why all groups but the last need a right side. An apart folding of more
+ * than one group is no nested one.
  *
  * A placement is three numbers: group (from 0), side (0 left, 1 right), start row (0 to 1,024,000). Rows count from the
  * end where the group's fold is, and in a group without a fold from the end of its last component. A folding is n
@@ -52,7 +55,7 @@
  *    8  short buffer    a buffer is too short, as each call says
  *    9  unmeetable      no legal folding keeps the limit; a cell is higher than the limit
  *   10  broken folding  the placements are not legal; so it is where a component with mark 1 and the next one differ in
- *                       group or side
+ *                       group or side, and where a group of a nested folding has no right side and is not the last
  *   11  bad fold mark   a mark over 1, or a last mark of 1
  *   12  row size        a row of no cells, or of over 60,000
  *

@@ -2,7 +2,7 @@
 use Prim.Native.Nat.{ℕ, ◌+◌, ◌-◌, ◌≤◌, ◌<◌, max}
 use mathlib.Core.Path.{◌≡◌, refl, sym, ap, ◌∙◌, subst}
 use mathlib.Core.List.{List, [], ◌∷◌}
-use mathlib.Core.Bool.{true}
+use mathlib.Core.Bool.{Bool, true}
 use native.Mathlib.Omega.{arith}
 use lib.ListN.{length, take, drop}
 use Rattle.std.proofs.lemmas.Bool.{lt-ltb, eq-eqb}
@@ -18,17 +18,17 @@ use Rattle.folding.specs.Legal.{Legal}
 use Rattle.folding.specs.Outline.{outline_of}
 use Rattle.folding.specs.Best.{BestForHeight, BestForWidth, UnmeetableHeight, UnmeetableWidth}
 use Rattle.folding.proofs.Rules.{legal_is}
-use Rattle.model.specs.Groups.{gap_behind, Group, members_of, width_of, height_of, Stands}
+use Rattle.model.specs.Groups.{is_end, gap_behind, Group, members_of, width_of, height_of, Stands}
 use Rattle.model.specs.Outlines.{outline}
 use Rattle.model.proofs.Choice.{no_wider}
 use Rattle.group.specs.Rows.{gap}
-use Rattle.layout.proofs.Marks.{legal_obeys, obeys_legal}
-use Rattle.layout.proofs.Foldings.{marked, legal_layout, layout_legal}
+use Rattle.layout.proofs.Obeying.{legal_obeys, obeys_legal}
+use Rattle.layout.proofs.Foldings.{ruled, legal_layout, layout_legal}
 use Rattle.cells.specs.Apart.{cell_stack}
 use Rattle.cells.specs.Calls.{all_in_size}
 use Rattle.cells.specs.Endings.{ends_behind, total, stack_height, greatest_behind, greatest_height, Ending, FewestFor, LowestFor, NoneFor}
 use Rattle.cells.proofs.Heights.{first_end, ends_most, none_left}
-use Rattle.cells.proofs.Cells.{sized_take, sized_drop, cells-length, cells_free, no_gap, apart_rule, apart_group, apart_laws, group_least, group_stands, cells_parts, cells_together}
+use Rattle.cells.proofs.Cells.{sized_take, sized_drop, cells-length, cells_free, no_gap, apart_rule, apart_laws, group_least, group_stands, cells_parts, cells_together}
 
 -- Groups that stand, the first behind a gap of g0.
 abbrev Standing : ℕ → ℕ → List (Group Component) → Type 0
@@ -52,14 +52,14 @@ module _ (hs : List ℕ) (few : length hs ≤ most_apart) (sized : all_in_size h
   }
 
   -- The first group has the next k cells.
-  next_end : (m g0 before k w h : ℕ) (gs : List (Group Component)) (members : List Component) → 0 < k → before + k ≤ length hs
-      → apart_group m g0 (cell_stack (take k (drop before hs))) w h
+  next_end : (last : Bool) (m g0 before k w h : ℕ) (gs : List (Group Component)) (members : List Component) → 0 < k → before + k ≤ length hs
+      → apart_rule m g0 last (cell_stack (take k (drop before hs))) w h
       → Ends (before + k) gs → Ends before (record { members = members; width = w; height = h } ∷ gs)
   unfolding ends_behind greatest_behind
-  next_end m g0 before k w h gs members one within g r =
+  next_end last m g0 before k w h gs members one within g r =
       let cells : List ℕ = take k (drop before hs) in
       let n : length cells ≡ k = omega (arith, within, length-take k (drop before hs), length-drop before hs) in
-      let q = group_least cells (omega (arith, n, one)) (omega (arith, n, within, few)) (sized_take (drop before hs) k (sized_drop hs before sized)) m g0 w h g in
+      let q = group_least last cells (omega (arith, n, one)) (omega (arith, n, within, few)) (sized_take (drop before hs) k (sized_drop hs before sized)) m g0 w h g in
       let t : stack_height hs before (before + k) ≡ total cells = ap total (drop-take before k hs) in
       record {
         ends = (before + k) ∷ r.ends;
@@ -73,10 +73,11 @@ module _ (hs : List ℕ) (few : length hs ≤ most_apart) (sized : all_in_size h
   ends_of m g0 before (g ∷ gs) l s e =
       let k = length g.members in
       let p = cells_parts g.members (members_of gs) (drop before hs) e in
-      let one : 0 < k = apart_laws.some m g0 true g.members g.width g.height s.0 in
+      let last = is_end (members_of gs) in
+      let one : 0 < k = apart_laws.some m g0 last g.members g.width g.height s.0 in
       let within : before + k ≤ length hs = omega (arith, l, ap length p.0, cells-length (take k (drop before hs)), length-take k (drop before hs), length-drop before hs) in
-      next_end m g0 before k g.width g.height gs g.members one within
-      (subst (λ (c : List Component). apart_group m g0 c g.width g.height) p.0 s.0)
+      next_end last m g0 before k g.width g.height gs g.members one within
+      (subst (λ (c : List Component). apart_rule m g0 last c g.width g.height) p.0 s.0)
       (ends_of (m + 1) (gap_behind (λ x. gap x) g.members) (before + k) gs within s.1 (p.1 ∙ ap cell_stack (drop-drop k before hs)))
 
   -- A legal apart folding gives stacks of cells: no more of them than it is wide, and no higher than it is.
@@ -84,7 +85,7 @@ module _ (hs : List ℕ) (few : length hs ≤ most_apart) (sized : all_in_size h
       → (es : List ℕ) × Ending hs es × (length es ≤ (outline_of (cell_stack hs) ps).width.0) × (greatest_height hs es ≤ (outline_of (cell_stack hs) ps).height.0)
   as_ending ps l =
       let o = legal_obeys Apart (cell_stack hs) ps (cells_free hs) l in
-      let y = legal_layout (marked Apart) (cell_stack hs) ps (record { whole = l.whole; rules = legal_is Apart (placed_of (cell_stack hs) ps) l.rules; obeys = o }) in
+      let y = legal_layout (ruled Apart) (cell_stack hs) ps (record { whole = l.whole; rules = legal_is Apart (placed_of (cell_stack hs) ps) l.rules; obeys = o }) in
       let r = ends_of 0 0 0 y.0 (omega arith) y.1.stands y.1.holds in
       let w : width_of y.0 ≡ (outline_of (cell_stack hs) ps).width.0 = ap (λ (o : Outline). o.width.0) y.2 in
       let h : height_of y.0 ≡ (outline_of (cell_stack hs) ps).height.0 = ap (λ (o : Outline). o.height.0) y.2 in
@@ -102,17 +103,17 @@ module _ (hs : List ℕ) (few : length hs ≤ most_apart) (sized : all_in_size h
       let p = first_end (length hs) before e es r in
       rw (groups_hold e es p.1) (cells_together hs before e (omega (arith, p.0)) (ends_most (length hs) e es p.1))
 
-  first_stands : (m before e : ℕ) → before < e → e ≤ length hs → apart_group m 0 (cell_stack (drop before (take e hs))) 1 (stack_height hs before e)
-  first_stands m before e l within =
+  first_stands : (last : Bool) (m before e : ℕ) → before < e → e ≤ length hs → apart_rule m 0 last (cell_stack (drop before (take e hs))) 1 (stack_height hs before e)
+  first_stands last m before e l within =
       let n : length (drop before (take e hs)) ≡ e - before = omega (arith, within, length-drop before (take e hs), length-take e hs) in
-      group_stands (drop before (take e hs)) (omega (arith, n, l)) (omega (arith, n, within, few)) (sized_drop (take e hs) before (sized_take hs e sized)) m
+      group_stands last (drop before (take e hs)) (omega (arith, n, l)) (omega (arith, n, within, few)) (sized_drop (take e hs) before (sized_take hs e sized)) m
 
   groups_stand : (m before : ℕ) (es : List ℕ) → ends_behind (length hs) before es ≡ true → Standing m 0 (groups_at before es)
   unfolding groups_at
   groups_stand m before [] r = tt
   groups_stand m before (e ∷ es) r =
       let p = first_end (length hs) before e es r in (
-        first_stands m before e p.0 (ends_most (length hs) e es p.1),
+        first_stands (is_end (members_of (groups_at e es))) m before e p.0 (ends_most (length hs) e es p.1),
         subst (λ (g0 : ℕ). Standing (m + 1) g0 (groups_at e es)) (sym (no_gap (drop before (take e hs)))) (groups_stand (m + 1) e es p.1),
       )
 
@@ -130,7 +131,7 @@ module _ (hs : List ℕ) (few : length hs ≤ most_apart) (sized : all_in_size h
   pub as_folding : (es : List ℕ) → Ending hs es
       → (ps : List Placement) × Legal Apart (cell_stack hs) ps × (outline_of (cell_stack hs) ps ≡ outline (length es) (greatest_height hs es))
   as_folding es r =
-      let y = layout_legal (marked Apart) (cell_stack hs) (groups_at 0 es) (record { stands = groups_stand 0 0 es r; holds = groups_hold 0 es r }) in
+      let y = layout_legal (ruled Apart) (cell_stack hs) (groups_at 0 es) (record { stands = groups_stand 0 0 es r; holds = groups_hold 0 es r }) in
       (y.0, obeys_legal Apart (cell_stack hs) y.0 y.1.whole y.1.rules y.1.obeys, rw (groups_wide 0 es, groups_high 0 es) at y.2)
 
   -- The outline's two numbers.

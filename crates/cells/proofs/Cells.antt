@@ -4,7 +4,7 @@ use Prim.Native.Nat.{ℕ, zero, suc, ◌+◌, ◌*◌, ◌≤◌, ◌<◌}
 use mathlib.Core.Path.{◌≡◌, refl, sym, ap, ◌∙◌}
 use mathlib.Core.Logic.{◌⊎◌, inl, inr}
 use mathlib.Core.List.{List, [], ◌∷◌, ◌++◌}
-use mathlib.Core.Bool.{true}
+use mathlib.Core.Bool.{Bool, true}
 use native.Mathlib.Omega.{arith}
 use lib.ListN.{length, take, drop, get_or}
 use lib.Dec.{leb}
@@ -20,8 +20,8 @@ use Rattle.terms.proofs.Order.{order}
 use Rattle.model.specs.Groups.{gap_behind, Model, Rule}
 use Rattle.model.specs.Laws.{Laws}
 use Rattle.group.specs.Rows.{tall}
-use Rattle.group.specs.Group.{none, gap_after, unbarred, widest, flat_height, may_stand, least_height, least_width}
-use Rattle.group.proofs.Ways.{SomeWay, suits, some_way}
+use Rattle.group.specs.Group.{none, gap_after, unbarred, widest, flat_height, may_stand, least_height, least_width, SomeWay}
+use Rattle.group.proofs.Ways.{suits, some_way}
 use Rattle.group.proofs.Falls.{apart_height}
 use Rattle.layout.specs.Layout.{groups}
 use Rattle.layout.proofs.Bounds.{AllGaps}
@@ -96,42 +96,39 @@ abbrev pub apart : Model Component
 apart = groups Apart
 
 abbrev pub apart_rule : Rule Component
-apart_rule = legal_group Apart (λ last. may_stand Apart)
+apart_rule = legal_group Apart (may_stand Apart)
 
 pub apart_laws : Laws apart Good apart_rule
-apart_laws = groups_laws Apart (λ last. may_stand Apart) (λ last. suits Apart)
+apart_laws = groups_laws Apart (may_stand Apart) (suits Apart)
 
 -- It does not matter to them whether they stand last.
-abbrev pub apart_group : ℕ → ℕ → List Component → ℕ → ℕ → Type 0
-apart_group m g0 cs w h = apart_rule m g0 true cs w h
-
-module _ (hs : List ℕ) (some : 0 < length hs) (few : length hs ≤ most_apart) (sized : all_in_size hs ≡ true) where
+module _ (last : Bool) (hs : List ℕ) (some : 0 < length hs) (few : length hs ≤ most_apart) (sized : all_in_size hs ≡ true) where
   good : Good (cell_stack hs)
   good = cells_good hs few sized
 
   filled : 0 < length (cell_stack hs)
   filled = omega (arith, some, cells-length hs)
 
-  way : SomeWay (may_stand Apart) (cell_stack hs)
-  way = some_way Apart (cell_stack hs) filled (cells_free hs)
+  way : SomeWay (may_stand Apart last) (cell_stack hs)
+  way = some_way Apart last (cell_stack hs) tt filled (cells_free hs)
 
   flat : (g0 : ℕ) → flat_height g0 (cell_stack hs) ≡ total hs + g0
   flat g0 = omega (arith, cells_tall hs, no_gap hs)
 
   -- The least width of such a group.
-  met : (g0 limit : ℕ) → total hs + g0 ≤ limit → least_width Apart g0 (cell_stack hs) limit ≡ 1
-  met g0 limit l = apart_met (may_stand Apart) (suits Apart) g0 (cell_stack hs) limit way (omega (arith, flat g0, l)) ∙ one_wide hs some
+  met : (g0 limit : ℕ) → total hs + g0 ≤ limit → least_width Apart last g0 (cell_stack hs) limit ≡ 1
+  met g0 limit l = apart_met (may_stand Apart last) (suits Apart last) g0 (cell_stack hs) limit way (omega (arith, flat g0, l)) ∙ one_wide hs some
 
-  unmet : (g0 limit : ℕ) → limit < total hs + g0 → least_width Apart g0 (cell_stack hs) limit ≡ none
-  unmet g0 limit l = apart_unmet (may_stand Apart) (suits Apart) g0 (cell_stack hs) limit way (omega (arith, flat g0, l))
+  unmet : (g0 limit : ℕ) → limit < total hs + g0 → least_width Apart last g0 (cell_stack hs) limit ≡ none
+  unmet g0 limit l = apart_unmet (may_stand Apart last) (suits Apart last) g0 (cell_stack hs) limit way (omega (arith, flat g0, l))
 
   -- An apart group of cells is at least as wide as one, and as high as all together.
-  pub group_least : (m g0 w h : ℕ) → apart_group m g0 (cell_stack hs) w h → (1 ≤ w) × (total hs ≤ h)
+  pub group_least : (m g0 w h : ℕ) → apart_rule m g0 last (cell_stack hs) w h → (1 ≤ w) × (total hs ≤ h)
   group_least m g0 w h g =
-      go (order (total hs + g0) h) (apart_laws.no_better m g0 true (cell_stack hs) w h good g h (omega arith)) (apart_laws.slim m g0 true (cell_stack hs) w h good g)
+      go (order (total hs + g0) h) (apart_laws.no_better m g0 last (cell_stack hs) w h good g h (omega arith)) (apart_laws.slim m g0 last (cell_stack hs) w h good g)
     where
       go : (total hs + g0 ≤ h) ⊎ (h < total hs + g0)
-          → (least_width Apart g0 (cell_stack hs) h < w) ⊎ ((least_width Apart g0 (cell_stack hs) h ≡ w) × (apart.height h g0 true (cell_stack hs) ≤ h))
+          → (least_width Apart last g0 (cell_stack hs) h < w) ⊎ ((least_width Apart last g0 (cell_stack hs) h ≡ w) × (apart.height h g0 last (cell_stack hs) ≤ h))
           → w ≤ most_size * length (cell_stack hs) → (1 ≤ w) × (total hs ≤ h)
       go (inl l) (inl b) s = (omega (arith, met g0 h l), omega (arith, l))
       go (inl l) (inr b) s = (omega (arith, met g0 h l, b.0), omega (arith, l))
@@ -139,13 +136,13 @@ module _ (hs : List ℕ) (some : 0 < length hs) (few : length hs ≤ most_apart)
       go (inr l) (inr b) s = absurd (omega (arith, unmet g0 h l, b.0, few, cells-length hs))
 
   -- Behind other cells, one is just so wide and so high.
-  least_high : (cap : ℕ) → least_height Apart 0 (cell_stack hs) cap ≡ total hs
-  least_high cap = omega (arith, apart_height (may_stand Apart) 0 (cell_stack hs) cap way (suits Apart), flat 0)
+  least_high : (cap : ℕ) → least_height Apart last 0 (cell_stack hs) cap ≡ total hs
+  least_high cap = omega (arith, apart_height (may_stand Apart last) 0 (cell_stack hs) cap way (suits Apart last), flat 0)
 
-  pub group_stands : (m : ℕ) → apart_group m 0 (cell_stack hs) 1 (total hs)
+  pub group_stands : (m : ℕ) → apart_rule m 0 last (cell_stack hs) 1 (total hs)
   group_stands m =
-      let w : least_width Apart 0 (cell_stack hs) (total hs) ≡ 1 = met 0 (total hs) (omega arith) in
-      rw (least_high 1) at (rw w at (apart_laws.reached m 0 true (cell_stack hs) filled good (total hs) (omega (arith, w))))
+      let w : least_width Apart last 0 (cell_stack hs) (total hs) ≡ 1 = met 0 (total hs) (omega arith) in
+      rw (least_high 1) at (rw w at (apart_laws.reached m 0 last (cell_stack hs) filled good (total hs) (omega (arith, w))))
 
 -- A row in two parts.
 pub cells_parts : (a b : List Component) (hs : List ℕ) → a ++ b ≡ cell_stack hs

@@ -67,7 +67,7 @@ module _ (kind : Kind) (cs : List Component) (s : Stacked cs) where
 
   module _ (o : Outline) (lead : Lead kind cs o) (limit : ℕ) (low : limit ≤ 2000000) (p : Outline) (m : (p ≡ best_at kind limit cs) × ((layout_of kind limit 0 cs).width < none)) where
     here_wide : 0 < (layout_of kind limit 0 cs).width
-    here_wide = omega (arith, widest_wide, layout_widest (λ last. may_stand kind) limit 0 cs m.1)
+    here_wide = omega (arith, widest_wide, layout_widest (may_stand kind) limit 0 cs m.1)
 
     here_low : (layout_of kind limit 0 cs).height ≤ 2000000
     here_low = omega (arith, (search kind cs s).keeps limit m.1)

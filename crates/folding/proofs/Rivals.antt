@@ -1,14 +1,19 @@
 -- What "best", "unmeetable", "smallest" and "unbeaten" rule out: a legal folding of w slices and h rows is a rival that no
--- claim outlives. And what a start row rules out.
-use Rattle.std.specs.Prelude.{ℕ, ◌*◌, ◌≤◌, ◌<◌, max, ◌≡◌, refl, ◌⊎◌, List, [], ◌∷◌, ◌++◌}
+-- claim outlives. And what a start row and the rule of turning rule out.
+use Rattle.std.specs.Prelude.{ℕ, ◌*◌, ◌≤◌, ◌<◌, max, ◌≡◌, refl, ◌⊎◌, List, [], ◌∷◌, ◌++◌, Bool, true, false, not, ◌||◌}
+use mathlib.Core.Path.{sym, ◌∙◌}
+use mathlib.Core.Bool.{true≢false}
+use Rattle.terms.proofs.Bools.{both, and_is}
 use Rattle.std.proofs.Common.{ap, subst, inl, inr, arith}
 use Rattle.terms.specs.declared.Component.{Component}
 use Rattle.terms.specs.declared.Kind.{Kind}
-use Rattle.terms.specs.declared.Kind.TheVariants.{Apart}
+use Rattle.terms.specs.declared.Kind.TheVariants.{Apart, Nested}
 use Rattle.folding.specs.declared.Placed.{Placed}
 use Rattle.folding.specs.declared.Placement.{Placement}
 use Rattle.folding.specs.declared.Outline.{Outline}
-use Rattle.folding.specs.Placement.{start_of, placed_of}
+use Rattle.folding.specs.Placement.{start_of, left, placed_of}
+use Rattle.folding.specs.Legal.{each, each_pair, same_group, on_side, turned, legal}
+use Rattle.folding.proofs.Rules.{legal_holds, legal_turned}
 use Rattle.folding.specs.Outline.{outline_of}
 use Rattle.folding.specs.StartRows.{StartRow}
 use Rattle.folding.specs.Best.{Wider, Higher, Larger, Other, BestForHeight, BestForWidth, UnmeetableHeight, UnmeetableWidth, SmallestArea, Unbeaten}
@@ -111,3 +116,21 @@ no_start_above g row h s = omega (arith, s.starts, start_in s.before s.component
 A_row_two : StartRow (placed_of stack_A (p 0 0 0 ∷ [])) 2 → ⊥
 unfolding placed_of highest_start
 A_row_two = no_start_above (placed_of stack_A (p 0 0 0 ∷ [])) 2 (omega arith)
+
+-- Ticket 5: an apart folding of several groups is no nested one, since all its components are on the left.
+one_group : (l : List Placed) → each (on_side Apart) l ≡ true → each_pair (turned Nested) l ≡ true → each_pair same_group l ≡ true
+unfolding each each_pair
+one_group [] s t = refl
+one_group (x ∷ []) s t = refl
+one_group (x ∷ y ∷ l) s t =
+    let a = both (left x) (each (on_side Apart) (y ∷ l)) s in
+    let b = both (turned Nested x y) (each_pair (turned Nested) (y ∷ l)) t in
+    and_is (together (same_group x y) (left x) a.0 b.0) (one_group (y ∷ l) a.1 b.1)
+  where
+    together : (a b : Bool) → b ≡ true → (a || not b) ≡ true → a ≡ true
+    together true b e f = refl
+    together false true e f = f
+    together false false e f = e
+
+pub groups_apart : (l : List Placed) → each_pair same_group l ≡ false → legal Apart l ≡ true → legal Nested l ≡ true → ⊥
+groups_apart l s a n = true≢false (sym (one_group l (legal_holds Apart l a).sides (legal_turned Nested l n)) ∙ s)

@@ -12,7 +12,7 @@ use Rattle.terms.specs.Component.{barred}
 use Rattle.terms.proofs.Bools.{both, and_is, either, same_truth}
 use Rattle.folding.specs.declared.Placed.{Placed}
 use Rattle.folding.specs.Placement.{group_of, start_of, end_of, left}
-use Rattle.folding.specs.Legal.{each, each_pair, in_range, same_group, from_zero, in_order, from_left, left_first, left_clear, right_clear, on_side, unparted, legal}
+use Rattle.folding.specs.Legal.{each, each_pair, in_range, same_group, from_zero, in_order, from_left, left_first, left_clear, right_clear, on_side, unparted, turned, legal}
 
 -- What is asked of a component by itself.
 pub record Alone (kind : Kind) (x : Placed) : Type 0 where
@@ -52,6 +52,12 @@ abbrev pub Unparted : List Placed → Type 0
 Unparted [] = Unit {0}
 Unparted (x ∷ []) = barred x.component ≡ false
 Unparted (x ∷ y ∷ l) = (unparted x y ≡ true) × Unparted (y ∷ l)
+
+-- What the last of a group asks of the one after it. A rule beside those of `LegalFrom` too.
+abbrev pub Turned : Kind → List Placed → Type 0
+Turned kind [] = Unit {0}
+Turned kind (x ∷ []) = Unit {0}
+Turned kind (x ∷ y ∷ l) = (turned kind x y ≡ true) × Turned kind (y ∷ l)
 
 pub alone_is : (kind : Kind) (x : Placed) → alone_rules kind x ≡ true → Alone kind x
 alone_is kind x e =
@@ -132,10 +138,12 @@ follows_of kind x (y ∷ l) a f =
       sides = and_is e.1 later.sides;
     }
 
-first_rules : (kind : Kind) (l : List Placed) → legal kind l ≡ true → (from_zero l ≡ true) × (from_left l ≡ true) × Holds kind l × (each_pair unparted l ≡ true)
+first_rules : (kind : Kind) (l : List Placed) → legal kind l ≡ true
+    → (from_zero l ≡ true) × (from_left l ≡ true) × Holds kind l × (each_pair unparted l ≡ true) × (each_pair (turned kind) l ≡ true)
 unfolding legal
 first_rules kind l e =
-    let e6 = both (each in_range l && (from_zero l && each_pair in_order l) && (from_left l && each_pair left_first l) && each_pair left_clear l && each_pair right_clear l && each (on_side kind) l) (each_pair unparted l) e in
+    let e7 = both (each in_range l && (from_zero l && each_pair in_order l) && (from_left l && each_pair left_first l) && each_pair left_clear l && each_pair right_clear l && each (on_side kind) l && each_pair unparted l) (each_pair (turned kind) l) e in
+    let e6 = both (each in_range l && (from_zero l && each_pair in_order l) && (from_left l && each_pair left_first l) && each_pair left_clear l && each_pair right_clear l && each (on_side kind) l) (each_pair unparted l) e7.0 in
     let e5 = both (each in_range l && (from_zero l && each_pair in_order l) && (from_left l && each_pair left_first l) && each_pair left_clear l && each_pair right_clear l) (each (on_side kind) l) e6.0 in
     let e4 = both (each in_range l && (from_zero l && each_pair in_order l) && (from_left l && each_pair left_first l) && each_pair left_clear l) (each_pair right_clear l) e5.0 in
     let e3 = both (each in_range l && (from_zero l && each_pair in_order l) && (from_left l && each_pair left_first l)) (each_pair left_clear l) e4.0 in
@@ -143,10 +151,13 @@ first_rules kind l e =
     let e1 = both (each in_range l) (from_zero l && each_pair in_order l) e2.0 in
     let z = both (from_zero l) (each_pair in_order l) e1.1 in
     let f = both (from_left l) (each_pair left_first l) e2.1 in
-    (z.0, f.0, record { ranges = e1.0; order = z.1; lefts = f.1; clear_left = e3.1; clear_right = e4.1; sides = e5.1 }, e6.1)
+    (z.0, f.0, record { ranges = e1.0; order = z.1; lefts = f.1; clear_left = e3.1; clear_right = e4.1; sides = e5.1 }, e6.1, e7.1)
 
 pub legal_unparted : (kind : Kind) (l : List Placed) → legal kind l ≡ true → each_pair unparted l ≡ true
 legal_unparted kind l e = (first_rules kind l e).3
+
+pub legal_turned : (kind : Kind) (l : List Placed) → legal kind l ≡ true → each_pair (turned kind) l ≡ true
+legal_turned kind l e = (first_rules kind l e).4
 
 pub legal_holds : (kind : Kind) (l : List Placed) → legal kind l ≡ true → Holds kind l
 legal_holds kind l e = (first_rules kind l e).2
@@ -158,16 +169,18 @@ legal_is kind (x ∷ l) e =
     let r = follows_is kind x l f.2 in
     (eqb-true _ _ f.0, f.1, r.0, r.1)
 
-pub legal_of : (kind : Kind) (l : List Placed) → LegalFrom kind 0 l → each_pair unparted l ≡ true → legal kind l ≡ true
+pub legal_of : (kind : Kind) (l : List Placed) → LegalFrom kind 0 l → each_pair unparted l ≡ true → each_pair (turned kind) l ≡ true → legal kind l ≡ true
 unfolding legal each each_pair
-legal_of kind [] f u = refl
-legal_of kind (x ∷ l) f u =
+legal_of kind [] f u t = refl
+legal_of kind (x ∷ l) f u t =
     let h = follows_of kind x l f.2 f.3 in
     and_is
     (and_is
+    (and_is
     (and_is (and_is (and_is (and_is h.ranges (and_is (eq-eqb _ _ f.0) h.order)) (and_is f.1 h.lefts)) h.clear_left) h.clear_right)
     h.sides)
-    u
+    u)
+    t
 
 -- The rule of marks as one about neighbours, and with the last one beside it.
 pub unparted_pairs : (l : List Placed) → Unparted l → each_pair unparted l ≡ true
@@ -188,34 +201,52 @@ pairs_unparted [] e f = tt
 pairs_unparted (x ∷ []) e f = f
 pairs_unparted (x ∷ y ∷ l) e f = let b = both (unparted x y) (each_pair unparted (y ∷ l)) e in (b.0, pairs_unparted (y ∷ l) b.1 f)
 
+-- The rule of turning likewise.
+pub turned_pairs : (kind : Kind) (l : List Placed) → Turned kind l → each_pair (turned kind) l ≡ true
+unfolding each_pair
+turned_pairs kind [] t = refl
+turned_pairs kind (x ∷ []) t = refl
+turned_pairs kind (x ∷ y ∷ l) t = and_is t.0 (turned_pairs kind (y ∷ l) t.1)
+
+pub pairs_turned : (kind : Kind) (l : List Placed) → each_pair (turned kind) l ≡ true → Turned kind l
+unfolding each_pair
+pairs_turned kind [] e = tt
+pairs_turned kind (x ∷ []) e = tt
+pairs_turned kind (x ∷ y ∷ l) e = let b = both (turned kind x y) (each_pair (turned kind) (y ∷ l)) e in (b.0, pairs_turned kind (y ∷ l) b.1)
+
 -- One pass over the placements: what is left to be checked behind x.
 unfoldable pub passes : Kind → Placed → List Placed → Bool
 passes kind x [] = true
-passes kind x (y ∷ l) = alone_rules kind y && next_rules x y && unparted x y && passes kind y l
+passes kind x (y ∷ l) = alone_rules kind y && next_rules x y && unparted x y && turned kind x y && passes kind y l
 
-passes_is : (kind : Kind) (x : Placed) (l : List Placed) → passes kind x l ≡ true → Follows kind x l × (each_pair unparted (x ∷ l) ≡ true)
+passes_is : (kind : Kind) (x : Placed) (l : List Placed) → passes kind x l ≡ true
+    → Follows kind x l × (each_pair unparted (x ∷ l) ≡ true) × (each_pair (turned kind) (x ∷ l) ≡ true)
 unfolding passes each_pair
-passes_is kind x [] e = (tt, refl)
+passes_is kind x [] e = (tt, refl, refl)
 passes_is kind x (y ∷ l) e =
-    let a = both (alone_rules kind y && next_rules x y && unparted x y) (passes kind y l) e in
-    let d = both (alone_rules kind y && next_rules x y) (unparted x y) a.0 in
+    let a = both (alone_rules kind y && next_rules x y && unparted x y && turned kind x y) (passes kind y l) e in
+    let t = both (alone_rules kind y && next_rules x y && unparted x y) (turned kind x y) a.0 in
+    let d = both (alone_rules kind y && next_rules x y) (unparted x y) t.0 in
     let b = both (alone_rules kind y) (next_rules x y) d.0 in
     let later = passes_is kind y l a.1 in
-    ((next_is x y b.1, alone_is kind y b.0, later.0), and_is d.1 later.1)
+    ((next_is x y b.1, alone_is kind y b.0, later.0), and_is d.1 later.1, and_is t.1 later.2)
 
-passes_of : (kind : Kind) (x : Placed) (l : List Placed) → Follows kind x l → each_pair unparted (x ∷ l) ≡ true → passes kind x l ≡ true
+passes_of : (kind : Kind) (x : Placed) (l : List Placed) → Follows kind x l → each_pair unparted (x ∷ l) ≡ true → each_pair (turned kind) (x ∷ l) ≡ true → passes kind x l ≡ true
 unfolding passes each_pair
-passes_of kind x [] f u = refl
-passes_of kind x (y ∷ l) f u =
+passes_of kind x [] f u t = refl
+passes_of kind x (y ∷ l) f u t =
     let b = both (unparted x y) (each_pair unparted (y ∷ l)) u in
-    and_is (and_is (and_is (alone_of kind y f.1) (next_of x y f.0)) b.0) (passes_of kind y l f.2 b.1)
+    let d = both (turned kind x y) (each_pair (turned kind) (y ∷ l)) t in
+    and_is (and_is (and_is (and_is (alone_of kind y f.1) (next_of x y f.0)) b.0) d.0) (passes_of kind y l f.2 b.1 d.1)
 
 pub legal_passes : (kind : Kind) (x : Placed) (l : List Placed) → legal kind (x ∷ l) ≡ (eqb (group_of x) 0 && left x && alone_rules kind x && passes kind x l)
 legal_passes kind x l = same_truth _ _
-    (λ e. let f = legal_is kind (x ∷ l) e in and_is (and_is (and_is (eq-eqb _ _ f.0) f.1) (alone_of kind x f.2)) (passes_of kind x l f.3 (legal_unparted kind (x ∷ l) e)))
+    (λ e.
+    let f = legal_is kind (x ∷ l) e in
+    and_is (and_is (and_is (eq-eqb _ _ f.0) f.1) (alone_of kind x f.2)) (passes_of kind x l f.3 (legal_unparted kind (x ∷ l) e) (legal_turned kind (x ∷ l) e)))
     (λ e.
     let a = both (eqb (group_of x) 0 && left x && alone_rules kind x) (passes kind x l) e in
     let b = both (eqb (group_of x) 0 && left x) (alone_rules kind x) a.0 in
     let c = both (eqb (group_of x) 0) (left x) b.0 in
     let p = passes_is kind x l a.1 in
-    legal_of kind (x ∷ l) (eqb-true _ _ c.0, c.1, alone_is kind x b.1, p.0) p.1)
+    legal_of kind (x ∷ l) (eqb-true _ _ c.0, c.1, alone_is kind x b.1, p.0) p.1 p.2)

@@ -6,7 +6,7 @@ use Rattle.terms.specs.declared.Kind.{Kind}
 use Rattle.terms.specs.declared.Kind.TheVariants.{Apart, Nested}
 use Rattle.folding.specs.declared.Placement.{Placement}
 use Rattle.folding.specs.Placement.{placed_of}
-use Rattle.terms.specs.Answer.{refusal}
+use Rattle.terms.specs.Answer.{refusal, result}
 use Rattle.terms.specs.Component.{every, stack_of, tabulate}
 use Rattle.stack.specs.File.{header_of}
 use Rattle.folding.specs.Calls.{measure_in, choose_of}
@@ -94,17 +94,17 @@ E_nested_3_3 : Folds Nested stack_E (p 0 0 1 ∷ p 0 0 0 ∷ p 0 1 0 ∷ p 0 1 2
 unfolding placed_of legal each each_pair groups_of top_of row_sum greatest last_gap folded fold_gap layout_width layout_height
 E_nested_3_3 = record { is_legal = record { whole = refl; rules = refl }; has = refl }
 
-E_nested_6_2 : Folds Nested stack_E (p 0 0 0 ∷ p 1 0 0 ∷ p 1 1 0 ∷ p 1 1 1 ∷ []) 6 2
+E_nested_6_2 : Folds Nested stack_E (p 0 0 1 ∷ p 0 0 0 ∷ p 0 1 0 ∷ p 0 1 1 ∷ []) 6 2
 unfolding placed_of legal each each_pair groups_of top_of row_sum greatest last_gap folded fold_gap layout_width layout_height
 E_nested_6_2 = record { is_legal = record { whole = refl; rules = refl }; has = refl }
 
-E_nested_8_1 : Folds Nested stack_E (p 0 0 0 ∷ p 1 0 0 ∷ p 2 0 0 ∷ p 3 0 0 ∷ []) 8 1
+E_nested_8_1 : Folds Nested stack_E (p 0 0 0 ∷ p 0 1 0 ∷ p 1 0 0 ∷ p 1 1 0 ∷ []) 8 1
 unfolding placed_of legal each each_pair groups_of top_of row_sum greatest last_gap folded fold_gap layout_width layout_height
 E_nested_8_1 = record { is_legal = record { whole = refl; rules = refl }; has = refl }
 
-F_nested_10_2 : Folds Nested stack_F (p 0 0 0 ∷ p 1 0 1 ∷ p 1 0 0 ∷ p 1 1 0 ∷ p 1 1 1 ∷ []) 10 2
+F_nested_13_2 : Folds Nested stack_F (p 0 0 0 ∷ p 0 1 0 ∷ p 1 0 1 ∷ p 1 0 0 ∷ p 1 1 1 ∷ []) 13 2
 unfolding placed_of legal each each_pair groups_of top_of row_sum greatest last_gap folded fold_gap layout_width layout_height
-F_nested_10_2 = record { is_legal = record { whole = refl; rules = refl }; has = refl }
+F_nested_13_2 = record { is_legal = record { whole = refl; rules = refl }; has = refl }
 
 -- side 2 is out of range
 side_two : legal Nested (placed_of stack_C (p 0 0 1 ∷ p 0 2 0 ∷ [])) ≡ false
@@ -142,7 +142,7 @@ unfolding placed_of legal each each_pair
 first_right = refl
 
 -- each group begins on the left
-second_group_right : legal Nested (placed_of stack_C (p 0 0 0 ∷ p 1 1 0 ∷ [])) ≡ false
+second_group_right : legal Nested (placed_of stack_B (p 0 0 0 ∷ p 0 1 0 ∷ p 1 1 0 ∷ p 1 1 2 ∷ [])) ≡ false
 unfolding placed_of legal each each_pair
 second_group_right = refl
 
@@ -207,8 +207,8 @@ two_sides_refused : measure_in Nested barred_E (0 ∷ 0 ∷ 1 ∷ 0 ∷ 0 ∷ 0 
 unfolding measure_in tabulate placed_of legal each each_pair
 two_sides_refused = refl
 
--- The folding of E_nested_6_2 has them on two sides too, in a later group.
-two_sides_later : legal Nested (placed_of barred_E (p 0 0 0 ∷ p 1 0 0 ∷ p 1 1 0 ∷ p 1 1 1 ∷ [])) ≡ false
+-- Behind a first group with a fold they are on the two sides of a later group.
+two_sides_later : legal Nested (placed_of (c 1 1 0 ∷ barred_E) (p 0 0 0 ∷ p 0 1 0 ∷ p 1 0 0 ∷ p 1 1 0 ∷ p 1 1 1 ∷ [])) ≡ false
 unfolding placed_of legal each each_pair
 two_sides_later = refl
 
@@ -242,7 +242,7 @@ barred_E_nested_4_3 : Folds Nested barred_E (p 0 0 0 ∷ p 0 1 0 ∷ p 0 1 1 ∷
 unfolding placed_of legal each each_pair groups_of top_of row_sum greatest last_gap folded fold_gap layout_width layout_height
 barred_E_nested_4_3 = record { is_legal = record { whole = refl; rules = refl }; has = refl }
 
-barred_E_nested_7_2 : Folds Nested barred_E (p 0 0 0 ∷ p 1 0 1 ∷ p 1 0 0 ∷ p 1 1 0 ∷ []) 7 2
+barred_E_nested_7_2 : Folds Nested barred_E (p 0 0 0 ∷ p 0 1 0 ∷ p 0 1 1 ∷ p 1 0 0 ∷ []) 7 2
 unfolding placed_of legal each each_pair groups_of top_of row_sum greatest last_gap folded fold_gap layout_width layout_height
 barred_E_nested_7_2 = record { is_legal = record { whole = refl; rules = refl }; has = refl }
 
@@ -255,6 +255,30 @@ barred_gap_right : Folds Nested (c 1 1 0 ∷ b 1 1 5 ∷ c 1 1 0 ∷ []) (p 0 0 
 unfolding placed_of legal each each_pair groups_of top_of row_sum greatest last_gap folded fold_gap layout_width layout_height
 barred_gap_right = record { is_legal = record { whole = refl; rules = refl }; has = refl }
 
+-- Ticket 5: the folding of F with 10 slices in 2 rows has a first group without a right side.
+flat_first : legal Nested (placed_of stack_F (p 0 0 0 ∷ p 1 0 1 ∷ p 1 0 0 ∷ p 1 1 0 ∷ p 1 1 1 ∷ [])) ≡ false
+unfolding placed_of legal each each_pair
+flat_first = refl
+
+-- Such a group between two that have a right side.
+flat_between : legal Nested (placed_of stack_F (p 0 0 0 ∷ p 0 1 0 ∷ p 1 0 0 ∷ p 2 0 0 ∷ p 2 1 0 ∷ [])) ≡ false
+unfolding placed_of legal each each_pair
+flat_between = refl
+
+-- As the last group, behind one that has a right side, and as the only one (C_nested_1_2).
+flat_last : legal Nested (placed_of stack_F (p 0 0 0 ∷ p 0 1 0 ∷ p 1 0 2 ∷ p 1 0 1 ∷ p 1 0 0 ∷ [])) ≡ true
+unfolding placed_of legal each each_pair
+flat_last = refl
+
+-- The rule is one of nested foldings: two groups of an apart folding, measured as apart and as nested.
+two_apart : measure_in Apart stack_C (0 ∷ 0 ∷ 0 ∷ 1 ∷ 0 ∷ 0 ∷ []) ≡ result (record { width = record { 0 = 2 }; height = record { 0 = 6 } })
+unfolding measure_in tabulate placed_of legal each each_pair groups_of top_of row_sum greatest last_gap folded fold_gap layout_width layout_height
+two_apart = refl
+
+two_apart_nested : measure_in Nested stack_C (0 ∷ 0 ∷ 0 ∷ 1 ∷ 0 ∷ 0 ∷ []) ≡ refusal 10
+unfolding measure_in tabulate placed_of legal each each_pair
+two_apart_nested = refl
+
 -- Without a fold both gaps add: the one before a later group too. Group 1 is 1 + 4 + 6 rows high.
 gap_before_and_behind : Folds Apart (c 1 1 4 ∷ c 1 1 6 ∷ c 1 1 0 ∷ []) (p 0 0 0 ∷ p 1 0 0 ∷ p 2 0 0 ∷ []) 3 11
 unfolding placed_of legal each each_pair groups_of top_of row_sum greatest last_gap folded fold_gap layout_width layout_height
@@ -262,12 +286,12 @@ gap_before_and_behind = record { is_legal = record { whole = refl; rules = refl 
 
 -- With a fold the larger of the two gaps counts, here the one before the group: it is 3 + 7 + 2 rows high, with 2 the gap
 -- at its fold.
-larger_gap_before : Folds Nested (c 2 1 7 ∷ c 3 1 2 ∷ c 1 1 5 ∷ c 1 1 0 ∷ []) (p 0 0 0 ∷ p 1 0 0 ∷ p 1 1 0 ∷ p 2 0 0 ∷ []) 4 12
+larger_gap_before : Folds Nested (c 1 1 0 ∷ c 2 1 7 ∷ c 3 1 2 ∷ c 1 1 5 ∷ c 1 1 0 ∷ []) (p 0 0 0 ∷ p 0 1 0 ∷ p 1 0 0 ∷ p 1 1 0 ∷ p 2 0 0 ∷ []) 5 12
 unfolding placed_of legal each each_pair groups_of top_of row_sum greatest last_gap folded fold_gap layout_width layout_height
 larger_gap_before = record { is_legal = record { whole = refl; rules = refl }; has = refl }
 
 -- And here the one behind it.
-larger_gap_behind : Folds Nested (c 2 1 5 ∷ c 3 1 2 ∷ c 1 1 7 ∷ c 1 1 0 ∷ []) (p 0 0 0 ∷ p 1 0 0 ∷ p 1 1 0 ∷ p 2 0 0 ∷ []) 4 12
+larger_gap_behind : Folds Nested (c 1 1 0 ∷ c 2 1 5 ∷ c 3 1 2 ∷ c 1 1 7 ∷ c 1 1 0 ∷ []) (p 0 0 0 ∷ p 0 1 0 ∷ p 1 0 0 ∷ p 1 1 0 ∷ p 2 0 0 ∷ []) 5 12
 unfolding placed_of legal each each_pair groups_of top_of row_sum greatest last_gap folded fold_gap layout_width layout_height
 larger_gap_behind = record { is_legal = record { whole = refl; rules = refl }; has = refl }
 

@@ -1,5 +1,5 @@
--- Which foldings are legal (document 01, "Foldings"; ticket 3): "when all numbers are in these ranges and" each of the rules
--- below holds.
+-- Which foldings are legal (document 01, "Foldings"; tickets 3 and 5): "when all numbers are in these ranges and" each of the
+-- rules below holds.
 use Rattle.std.specs.Prelude.{ℕ, ◌+◌, ◌≡◌, List, [], ◌∷◌, Bool, true, not, cond, ◌&&◌, ◌||◌, length, leb, eqb}
 use Rattle.terms.specs.declared.Component.{Component}
 use Rattle.terms.specs.declared.Kind.{Kind}
@@ -67,6 +67,12 @@ same_side x y = eqb y.placement.side x.placement.side
 abbrev pub unparted : Placed → Placed → Bool
 unparted x y = not (barred x.component) || (same_group x y && same_side x y)
 
+-- Ticket 5: "in a nested folding a group without a right side may stand only last": where the group changes, the earlier of the
+-- two is on the right.
+abbrev pub turned : Kind → Placed → Placed → Bool
+turned Apart x y = true
+turned Nested x y = same_group x y || not (left x)
+
 unfoldable pub legal : Kind → List Placed → Bool
 legal kind l =
     each in_range l
@@ -76,6 +82,7 @@ legal kind l =
     && each_pair right_clear l
     && each (on_side kind) l
     && each_pair unparted l
+    && each_pair (turned kind) l
 
 -- A folding of a stack: a placement for each component, and legal.
 pub record Legal (kind : Kind) (cs : List Component) (ps : List Placement) : Type 0 where

@@ -21,12 +21,20 @@ const PLAIN: [u8; 31] =
 // Heights 2, 3, 1, widths 4, 5, 6, gaps 7, 8, 0.
 const GAPPED: [u8; 25] = *b"STK\x01\0\x03\0\x02\0\x04\0\x07\0\x03\0\x05\0\x08\0\x01\0\x06\0\0\0";
 
+// As GAPPED, behind a component of height 1 and width 1.
+const LATER_GAPPED: [u8; 31] =
+    *b"STK\x01\0\x04\0\x01\0\x01\0\0\0\x02\0\x04\0\x07\0\x03\0\x05\0\x08\0\x01\0\x06\0\0\0";
+
 // Heights 2, 3, widths 4, 5, gaps 7, 0.
 const SHORT: [u8; 19] = *b"STK\x01\0\x02\0\x02\0\x04\0\x07\0\x03\0\x05\0\0\0";
 
 // As PLAIN, with a fold barred after the second component and a gap of 9 there.
 const BARRED: [u8; 39] =
     *b"STK\x02\0\x04\0\x03\0\x01\0\0\0\0\0\x01\0\x01\0\x09\0\x01\0\x02\0\x01\0\0\0\0\0\x04\0\x01\0\0\0\0\0";
+
+// As BARRED, behind a component of height 1: the fold is barred after the third.
+const LATER_BARRED: [u8; 47] =
+    *b"STK\x02\0\x05\0\x01\0\x01\0\0\0\0\0\x03\0\x01\0\0\0\0\0\x01\0\x01\0\x09\0\x01\0\x02\0\x01\0\0\0\0\0\x04\0\x01\0\0\0\0\0";
 
 // As GAPPED, with a fold barred after the first component.
 const BARRED_GAPPED: [u8; 31] =
@@ -142,7 +150,7 @@ fn side_cases(out: &mut impl Write) -> io::Result<()> {
         (
             "second group on the right",
             Nested,
-            [[0, 0, 0], [1, 1, 0], [1, 1, 1], [1, 1, 3]],
+            [[0, 0, 0], [0, 1, 0], [1, 1, 0], [1, 1, 2]],
         ),
         (
             "left after right",
@@ -211,9 +219,9 @@ fn gap_cases(out: &mut impl Write) -> io::Result<()> {
             [[0, 0, 3], [0, 0, 0], [0, 1, 0]],
         ),
         (
-            "fold in the second group",
+            "fold in the first group",
             Nested,
-            [[0, 0, 0], [1, 0, 0], [1, 1, 0]],
+            [[0, 0, 0], [0, 1, 0], [1, 0, 0]],
         ),
         (
             "sides above each other",
@@ -222,6 +230,38 @@ fn gap_cases(out: &mut impl Write) -> io::Result<()> {
         ),
     ];
     cases(out, "", &GAPPED, &foldings)
+}
+
+// The gaps before a group with a fold and at its fold.
+fn later_gap_cases(out: &mut impl Write) -> io::Result<()> {
+    let foldings = [(
+        "fold in the second group",
+        Nested,
+        [[0, 0, 0], [0, 1, 0], [1, 0, 0], [1, 1, 0]],
+    )];
+    cases(out, "", &LATER_GAPPED, &foldings)
+}
+
+// Nested, a group without a right side may stand only last: not the same groups that stand apart.
+fn flat_cases(out: &mut impl Write) -> io::Result<()> {
+    let two = [[0, 0, 1], [0, 0, 0], [1, 0, 4], [1, 0, 0]];
+    let each = [[0, 0, 0], [1, 0, 0], [2, 0, 0], [3, 0, 0]];
+    let first = [[0, 0, 0], [1, 0, 0], [1, 1, 0], [1, 1, 2]];
+    let between = [[0, 0, 0], [0, 1, 0], [1, 0, 0], [2, 0, 0]];
+    let last = [[0, 0, 0], [0, 1, 0], [1, 0, 4], [1, 0, 0]];
+    let only = [[0, 0, 7], [0, 0, 6], [0, 0, 4], [0, 0, 0]];
+    let none = [[0, 0, 0], [0, 1, 0], [1, 0, 0], [1, 1, 0]];
+    let foldings = [
+        ("two groups apart", Apart, two),
+        ("two groups apart as nested", Nested, two),
+        ("each its own group as nested", Nested, each),
+        ("no right side in the first group", Nested, first),
+        ("no right side in a group between", Nested, between),
+        ("no right side in the last group", Nested, last),
+        ("no right side in the only group", Nested, only),
+        ("a right side in each group", Nested, none),
+    ];
+    cases(out, "", &PLAIN, &foldings)
 }
 
 // Each way to part a barred component from its successor.
@@ -242,13 +282,35 @@ fn parted_cases(out: &mut impl Write) -> io::Result<()> {
             Nested,
             [[0, 0, 1], [0, 0, 0], [0, 1, 0], [0, 1, 2]],
         ),
+    ];
+    cases(out, "barred, ", &BARRED, &foldings)
+}
+
+// Where the two open a group behind one with a fold. Alone in it they have no right side, so that it may stand only last.
+fn later_barred_cases(out: &mut impl Write) -> io::Result<()> {
+    let foldings = [
         (
             "two sides of the second group",
             Nested,
-            [[0, 0, 0], [1, 0, 0], [1, 1, 0], [1, 1, 2]],
+            [[0, 0, 0], [0, 1, 0], [1, 0, 0], [1, 1, 0], [1, 1, 2]],
+        ),
+        (
+            "no right side in the group between",
+            Nested,
+            [[0, 0, 0], [0, 1, 0], [1, 0, 2], [1, 0, 0], [2, 0, 0]],
+        ),
+        (
+            "a fold behind, in the second group",
+            Nested,
+            [[0, 0, 0], [0, 1, 0], [1, 0, 2], [1, 0, 0], [1, 1, 0]],
+        ),
+        (
+            "no right side in the last group",
+            Nested,
+            [[0, 0, 0], [0, 1, 0], [1, 0, 6], [1, 0, 4], [1, 0, 0]],
         ),
     ];
-    cases(out, "barred, ", &BARRED, &foldings)
+    cases(out, "barred, ", &LATER_BARRED, &foldings)
 }
 
 // The two together, with empty rows between them, and with groups and folds around them. Their gap counts for nothing.
@@ -299,7 +361,7 @@ fn length_cases(out: &mut impl Write) -> io::Result<()> {
     case(out, "no numbers", &GAPPED, Apart, &[])
 }
 
-// A stack of n components, all numbers of which are 1 but the gaps, each in a group of its own.
+// A stack of n components, all numbers of which are 1 but the gaps, apart each in a group of its own, nested two in a group.
 fn ones_case(out: &mut impl Write, label: &str, n: usize, kind: Kind) -> io::Result<()>
     requires { n ≤ 256 }
 {
@@ -308,8 +370,11 @@ fn ones_case(out: &mut impl Write, label: &str, n: usize, kind: Kind) -> io::Res
     let mut file = [0u8; 2055];
     let _ = stack_write::write(&ones[..n], &ones[..n], &zeros[..n], &zeros[..n], &mut file);
     let mut flat = [[0u32; 3]; 256];
-    for (group, placement) in (0..256).zip(&mut flat) {
-        placement[0] = group;
+    for (at, placement) in (0..256).zip(&mut flat) {
+        *placement = match kind {
+            Apart => [at, 0, 0],
+            Nested => [at / 2, at % 2, 0],
+        };
     }
     case(
         out,
@@ -340,11 +405,12 @@ fn choose_case(
     out: &mut impl Write,
     label: &str,
     file: &[u8],
+    kind: Kind,
     first: &[u32],
     second: &[u32],
 ) -> io::Result<()> {
     write!(out, "{label}")?;
-    for x in choose(file, Apart, first, second) {
+    for x in choose(file, kind, first, second) {
         write!(out, " {x}")?;
     }
     writeln!(out)
@@ -357,22 +423,36 @@ fn choose_cases(out: &mut impl Write) -> io::Result<()> {
     let as_high = [0, 0, 5, 0, 0, 2, 0, 0, 1];
     let highest = [0, 0, 29, 0, 0, 1, 0, 0, 0];
     let groups = [0, 0, 0, 1, 0, 0, 2, 0, 0];
-    choose_case(out, "narrower first", &GAPPED, &low, &groups)?;
-    choose_case(out, "narrower second", &GAPPED, &groups, &low)?;
-    choose_case(out, "lower first", &GAPPED, &low, &high)?;
-    choose_case(out, "lower second", &GAPPED, &high, &low)?;
-    choose_case(out, "equal", &GAPPED, &high, &as_high)?;
-    choose_case(out, "wider and lower second", &GAPPED, &highest, &groups)
+    choose_case(out, "narrower first", &GAPPED, Apart, &low, &groups)?;
+    choose_case(out, "narrower second", &GAPPED, Apart, &groups, &low)?;
+    choose_case(out, "lower first", &GAPPED, Apart, &low, &high)?;
+    choose_case(out, "lower second", &GAPPED, Apart, &high, &low)?;
+    choose_case(out, "equal", &GAPPED, Apart, &high, &as_high)?;
+    choose_case(
+        out,
+        "wider and lower second",
+        &GAPPED,
+        Apart,
+        &highest,
+        &groups,
+    )
 }
 
 fn refused_choose_cases(out: &mut impl Write) -> io::Result<()> {
     let legal = [0, 0, 4, 0, 0, 1, 0, 0, 0, 9, 9];
     let broken = [0, 0, 0, 0, 0, 1, 0, 0, 0];
     let groups = [0, 0, 0, 1, 0, 0, 2, 0, 0, 8];
-    choose_case(out, "broken first", &GAPPED, &broken, &legal[..9])?;
-    choose_case(out, "broken second", &GAPPED, &legal[..9], &broken)?;
-    choose_case(out, "short second", &GAPPED, &legal[..9], &legal[..3])?;
-    choose_case(out, "longer buffers", &GAPPED, &groups, &legal)
+    choose_case(out, "broken first", &GAPPED, Apart, &broken, &legal[..9])?;
+    choose_case(out, "broken second", &GAPPED, Apart, &legal[..9], &broken)?;
+    choose_case(
+        out,
+        "short second",
+        &GAPPED,
+        Apart,
+        &legal[..9],
+        &legal[..3],
+    )?;
+    choose_case(out, "longer buffers", &GAPPED, Apart, &groups, &legal)
 }
 
 fn barred_choices(out: &mut impl Write) -> io::Result<()> {
@@ -381,16 +461,43 @@ fn barred_choices(out: &mut impl Write) -> io::Result<()> {
     let in_three = [0, 0, 0, 1, 0, 2, 1, 0, 0, 2, 0, 0];
     let parted = [0, 0, 1, 0, 0, 0, 1, 0, 4, 1, 0, 0];
     let low = [0, 0, 3, 0, 0, 2, 0, 0, 0, 1, 0, 0];
-    choose_case(out, "barred, empty rows first", &BARRED, &together, &low)?;
+    choose_case(
+        out,
+        "barred, empty rows first",
+        &BARRED,
+        Apart,
+        &together,
+        &low,
+    )?;
     choose_case(
         out,
         "barred, empty rows second",
         &BARRED,
+        Apart,
         &in_three,
         &together_in_two,
     )?;
-    choose_case(out, "barred, parted first", &BARRED, &parted, &low)?;
-    choose_case(out, "barred, parted second", &BARRED, &low, &parted)
+    choose_case(out, "barred, parted first", &BARRED, Apart, &parted, &low)?;
+    choose_case(out, "barred, parted second", &BARRED, Apart, &low, &parted)
+}
+
+// Nested, of outlines 4 4, 3 6 and 3 4, and one with a first group that has no right side. Apart foldings of two groups, the
+// second with empty rows, are no nested ones.
+fn nested_choices(out: &mut impl Write) -> io::Result<()> {
+    let wide = [0, 0, 0, 0, 1, 0, 1, 0, 0, 1, 1, 0];
+    let high = [0, 0, 0, 0, 1, 0, 1, 0, 4, 1, 0, 0];
+    let low = [0, 0, 0, 0, 1, 0, 0, 1, 1, 1, 0, 0];
+    let broken = [0, 0, 0, 1, 0, 0, 1, 1, 0, 1, 1, 2];
+    let flat = [0, 0, 1, 0, 0, 0, 1, 0, 4, 1, 0, 0];
+    let higher = [0, 0, 9, 0, 0, 2, 1, 0, 20, 1, 0, 3];
+    let file = &PLAIN;
+    choose_case(out, "nested, narrower second", file, Nested, &wide, &high)?;
+    choose_case(out, "nested, lower second", file, Nested, &high, &low)?;
+    choose_case(out, "nested, broken first", file, Nested, &broken, &high)?;
+    choose_case(out, "nested, broken second", file, Nested, &high, &broken)?;
+    choose_case(out, "two groups apart", file, Apart, &flat, &higher)?;
+    let label = "two groups apart as nested";
+    choose_case(out, label, file, Nested, &flat, &higher)
 }
 
 // Placements of a caller of the library, which takes them behind a reference.
@@ -429,7 +536,7 @@ fn legal_structs(out: &mut impl Write) -> io::Result<()> {
         ("one group", Apart, [[0, 0, 4], [0, 0, 1], [0, 0, 0]]),
         ("three groups", Apart, [[0, 0, 0], [1, 0, 0], [2, 0, 0]]),
         ("fold after 1", Nested, [[0, 0, 0], [0, 1, 0], [0, 1, 3]]),
-        ("fold in group 1", Nested, [[0, 0, 0], [1, 0, 0], [1, 1, 0]]),
+        ("fold in group 0", Nested, [[0, 0, 0], [0, 1, 0], [1, 0, 0]]),
     ];
     structs_cases(out, &GAPPED, &foldings)
 }
@@ -438,6 +545,8 @@ fn refused_structs(out: &mut impl Write) -> io::Result<()> {
     let foldings = [
         ("right side", Apart, [[0, 0, 0], [0, 1, 0], [0, 1, 3]]),
         ("overlap", Apart, [[0, 0, 3], [0, 0, 1], [0, 0, 0]]),
+        ("fold in group 1", Nested, [[0, 0, 0], [1, 0, 0], [1, 1, 0]]),
+        ("three groups", Nested, [[0, 0, 0], [1, 0, 0], [2, 0, 0]]),
         (
             "side 4294967295",
             Nested,
@@ -490,8 +599,11 @@ fn main(rt: HostRuntime) -> io::Result<()> {
     side_cases(&mut out)?;
     start_cases(&mut out)?;
     gap_cases(&mut out)?;
+    later_gap_cases(&mut out)?;
+    flat_cases(&mut out)?;
     parted_cases(&mut out)?;
     unparted_cases(&mut out)?;
+    later_barred_cases(&mut out)?;
     written_case(&mut out)?;
     length_cases(&mut out)?;
     size_cases(&mut out)?;
@@ -499,6 +611,7 @@ fn main(rt: HostRuntime) -> io::Result<()> {
     choose_cases(&mut out)?;
     refused_choose_cases(&mut out)?;
     barred_choices(&mut out)?;
+    nested_choices(&mut out)?;
     legal_structs(&mut out)?;
     refused_structs(&mut out)?;
     barred_structs(&mut out)?;

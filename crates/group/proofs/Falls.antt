@@ -9,10 +9,10 @@ use lib.Dec.{eqb}
 use Rattle.terms.specs.declared.Component.{Component}
 use Rattle.terms.specs.declared.Kind.TheVariants.{Apart}
 use Rattle.group.specs.Rows.{tall, rows, packed, place}
-use Rattle.group.specs.Group.{left_side, right_side, flat_height, fold_height, May, way_height, ways_of, least_height_by, FoldPointBy}
+use Rattle.group.specs.Group.{left_side, right_side, flat_height, fold_height, May, way_height, ways_of, least_height_by, FoldPointBy, SomeWay}
 use Rattle.group.proofs.Chains.{Stacked, ClearOf, AllClear, stacked_tall, stacked_wider, packed_stacked, nothing_lower, reached}
 use Rattle.group.proofs.Sides.{both_sides, tall_sides}
-use Rattle.group.proofs.Ways.{lowest_falls, apart_whole, Suits, SomeWay, way_flat, fold_point, point_stands}
+use Rattle.group.proofs.Ways.{lowest_falls, apart_whole, Suits, way_flat, fold_point, point_stands}
 
 -- What is clear under a cap is clear under a greater one.
 clear_of : (c d : ℕ) (x : Component) (s : ℕ) (r : List Component) (ts : List ℕ) → c ≤ d → ClearOf c x s r ts → ClearOf d x s r ts

@@ -3,7 +3,7 @@ use Prim.Native.Nat.{ℕ, zero, suc, ◌≤◌, ◌<◌, min}
 use mathlib.Core.Path.{◌≡◌, refl, sym, ap, ◌∙◌}
 use mathlib.Core.Logic.{◌⊎◌, inl, inr}
 use mathlib.Core.List.{List, [], ◌∷◌}
-use mathlib.Core.Bool.{Bool, true, false, true≢false, cond, ◌&&◌}
+use mathlib.Core.Bool.{Bool, true, false, true≢false, false≢true, cond, ◌&&◌}
 use native.Mathlib.Nat.{eq-or-lt_of_le, le_of_suc-le-suc}
 use native.Mathlib.Omega.{arith}
 use lib.ListN.{length, take}
@@ -13,9 +13,10 @@ use Rattle.terms.specs.declared.Component.{Component}
 use Rattle.terms.specs.declared.Kind.{Kind}
 use Rattle.terms.specs.declared.Kind.TheVariants.{Apart, Nested}
 use Rattle.model.specs.Groups.{is_end}
-use Rattle.group.specs.Group.{none, flat_height, fold_height, May, on_sides, unbarred, may_stand, way_height, ways, lowest, ways_of, least_height_by, least_cap, least_width_by, FoldPointBy}
-use Rattle.terms.proofs.Bools.{both, and_is, either}
+use Rattle.group.specs.Group.{none, widest, flat_height, fold_height, May, on_sides, unbarred, may_stand, way_height, ways, lowest, ways_of, SomeWay, least_height_by, least_cap, least_width_by, FoldPointBy}
+use Rattle.terms.proofs.Bools.{both, and_is}
 use Rattle.terms.proofs.Order.{order}
+use Rattle.group.proofs.First.{first_none}
 
 -- p is one of a list of ways.
 abbrev pub In : ℕ → List ℕ → Type 0
@@ -45,6 +46,11 @@ lowest_some : (f : ℕ → ℕ) (l : List ℕ) → lowest f l < none → is_end 
 unfolding lowest
 lowest_some f [] h = absurd (omega arith)
 lowest_some f (p ∷ l) h = refl
+
+lowest_none : (f : ℕ → ℕ) (l : List ℕ) → is_end l ≡ true → lowest f l ≡ none
+unfolding lowest
+lowest_none f [] e = refl
+lowest_none f (p ∷ l) e = absurd (false≢true e)
 
 pub lowest_falls : (f g : ℕ → ℕ) (l : List ℕ) → ((p : ℕ) → f p ≤ g p) → lowest f l ≤ lowest g l
 unfolding lowest
@@ -100,10 +106,6 @@ apart_whole n p s = go (order n p)
 abbrev pub Suits : Kind → May → Type 0
 Suits kind may = (cs : List Component) (p : ℕ) → p < length cs → may cs p ≡ true → kind ≡ Nested
 
--- Some way is allowed to the group.
-abbrev pub SomeWay : May → List Component → Type 0
-SomeWay may cs = is_end (ways_of may cs) ≡ false
-
 first_in : (l : List ℕ) → is_end l ≡ false → (p : ℕ) × In p l
 first_in [] e = absurd (true≢false e)
 first_in (p ∷ l) e = (p, inl refl)
@@ -137,6 +139,19 @@ module _ (may : May) (cs : List Component) where
       go true h = absurd (omega arith)
       go false h = refl
 
+  -- Where none is, no cap leads to a height; so for a limit the first cap that does is the least width either way.
+  pub no_height : (g0 cap : ℕ) → is_end (ways_of may cs) ≡ true → least_height_by may g0 cs cap ≡ none
+  unfolding least_height_by
+  no_height g0 cap e = lowest_none (way_height g0 cs cap) (ways_of may cs) e
+
+  pub width_first : (g0 limit : ℕ) → limit < none → least_width_by may g0 cs limit ≡ least_cap may g0 cs limit
+  unfolding least_width_by
+  width_first g0 limit l = go (is_end (ways_of may cs)) refl
+    where
+      go : (b : Bool) → is_end (ways_of may cs) ≡ b → cond b none (least_cap may g0 cs limit) ≡ least_cap may g0 cs limit
+      go true e = sym (first_none (least_height_by may g0 cs) limit (widest cs) (suc (widest cs)) (λ k h u. omega (arith, no_height g0 k e)))
+      go false e = refl
+
   -- Where there is a height, too.
   pub height_some : (g0 cap : ℕ) → least_height_by may g0 cs cap < none → SomeWay may cs
   unfolding least_height_by
@@ -159,55 +174,87 @@ module _ (may : May) (cs : List Component) where
     pub point_stands : (kind : Kind) (p : ℕ) → Suits kind may → FoldPointBy may g0 cs cap p → Stands kind (length cs) p
     point_stands kind p s f = record { some = f.some; within = f.within; folded = λ h. s cs p h f.allowed }
 
--- What the kinds and the marks allow; nothing else looks into `may_stand`. Neither fold nor end behind a barred component.
-module _ (kind : Kind) (cs : List Component) (p : ℕ) where
-  may_parts : may_stand kind cs p ≡ true → (on_sides kind cs p ≡ true) × (unbarred (take p cs) ≡ true) × (unbarred cs ≡ true)
+-- What the kind, the place and the marks allow; nothing else looks into `may_stand`. Neither fold nor end behind a barred component.
+module _ (kind : Kind) (last : Bool) (cs : List Component) (p : ℕ) where
+  may_parts : may_stand kind last cs p ≡ true → (on_sides kind last cs p ≡ true) × (unbarred (take p cs) ≡ true) × (unbarred cs ≡ true)
   unfolding may_stand
   may_parts a =
-      let b = both (on_sides kind cs p && unbarred (take p cs)) (unbarred cs) a in
-      let d = both (on_sides kind cs p) (unbarred (take p cs)) b.0 in
+      let b = both (on_sides kind last cs p && unbarred (take p cs)) (unbarred cs) a in
+      let d = both (on_sides kind last cs p) (unbarred (take p cs)) b.0 in
       (d.0, d.1, b.1)
 
-  pub may_fold : may_stand kind cs p ≡ true → unbarred (take p cs) ≡ true
+  pub may_fold : may_stand kind last cs p ≡ true → unbarred (take p cs) ≡ true
   may_fold a = (may_parts a).1
 
-  pub may_end : may_stand kind cs p ≡ true → unbarred cs ≡ true
+  pub may_end : may_stand kind last cs p ≡ true → unbarred cs ≡ true
   may_end a = (may_parts a).2
 
 -- A fold: only to nested groups.
-pub suits : (kind : Kind) → Suits kind (may_stand kind)
-suits kind cs p h a = go kind (may_parts kind cs p a).0
+pub suits : (kind : Kind) (last : Bool) → Suits kind (may_stand kind last)
+suits kind last cs p h a = go kind (may_parts kind last cs p a).0
   where
-    go : (k : Kind) → on_sides k cs p ≡ true → k ≡ Nested
+    go : (k : Kind) → on_sides k last cs p ≡ true → k ≡ Nested
     go Apart e = absurd (let z = eqb-true p (length cs) e in omega arith)
     go Nested e = refl
 
+-- No fold: nested only to the last group.
+abbrev pub FlatStands : Kind → Bool → Type 0
+FlatStands Apart last = Unit {0}
+FlatStands Nested last = last ≡ true
+
+pub last_flat : (kind : Kind) → FlatStands kind true
+last_flat Apart = tt
+last_flat Nested = refl
+
+pub flat_stands : (kind : Kind) (last : Bool) (cs : List Component) (p : ℕ) → p ≡ length cs → may_stand kind last cs p ≡ true → FlatStands kind last
+flat_stands kind last cs p e a = go kind (may_parts kind last cs p a).0
+  where
+    only_last : (b : Bool) → on_sides Nested b cs p ≡ true → b ≡ true
+    only_last true o = refl
+    only_last false o = absurd (false≢true (rw (eq-eqb p (length cs) e) at o))
+
+    go : (k : Kind) → on_sides k last cs p ≡ true → FlatStands k last
+    go Apart o = tt
+    go Nested o = only_last last o
+
 -- Every way in which a legal group stands, with neither behind a barred component.
-pub stands_allowed : (kind : Kind) (cs : List Component) (p : ℕ) → Stands kind (length cs) p → unbarred (take p cs) ≡ true → unbarred cs ≡ true → may_stand kind cs p ≡ true
+pub stands_allowed : (kind : Kind) (last : Bool) (cs : List Component) (p : ℕ) → Stands kind (length cs) p → (p ≡ length cs → FlatStands kind last)
+    → unbarred (take p cs) ≡ true → unbarred cs ≡ true → may_stand kind last cs p ≡ true
 unfolding may_stand
-stands_allowed Apart cs p s f e = and_is (and_is (eq-eqb p (length cs) (apart_whole (length cs) p s)) f) e
-stands_allowed Nested cs p s f e = and_is {a = unbarred (take p cs)} f e
+stands_allowed Apart last cs p s t f e = and_is (and_is (eq-eqb p (length cs) (apart_whole (length cs) p s)) f) e
+stands_allowed Nested last cs p s t f e = and_is (and_is (go (order (length cs) p)) f) e
+  where
+    flat : (b : Bool) → b ≡ true → on_sides Nested b cs p ≡ true
+    flat true f = refl
+    flat false f = absurd (false≢true f)
 
--- So every group that may end there may stand without a fold, and some way is allowed to it.
-pub flat_allowed : (kind : Kind) (cs : List Component) → 0 < length cs → unbarred cs ≡ true → may_stand kind cs (length cs) ≡ true
-flat_allowed kind cs s e =
-    stands_allowed kind cs (length cs) (record { some = s; within = omega arith; folded = λ h. absurd (omega arith) }) (rw (take_all (length cs) cs (omega arith)) e) e
+    folded : (b : Bool) → p < length cs → on_sides Nested b cs p ≡ true
+    folded true h = refl
+    folded false h = rw (ne_eqb p (length cs) (λ q. omega arith))
 
-pub some_way : (kind : Kind) (cs : List Component) → 0 < length cs → unbarred cs ≡ true → SomeWay (may_stand kind) cs
-some_way kind cs s e = allowed_some (may_stand kind) cs (length cs) (s, omega arith, flat_allowed kind cs s e)
+    go : (length cs ≤ p) ⊎ (p < length cs) → on_sides Nested last cs p ≡ true
+    go (inl h) = flat last (t (omega (arith, s.within)))
+    go (inr h) = folded last h
 
--- To one that may not end there none is: it has no width. So one that has a width may end there.
-pub barred_end : (kind : Kind) (cs : List Component) (g0 limit : ℕ) → unbarred cs ≡ false → least_width_by (may_stand kind) g0 cs limit ≡ none
+-- So every group that may end there and stand without a fold may stand so, and some way is allowed to it.
+pub flat_allowed : (kind : Kind) (last : Bool) (cs : List Component) → FlatStands kind last → 0 < length cs → unbarred cs ≡ true → may_stand kind last cs (length cs) ≡ true
+flat_allowed kind last cs t s e =
+    stands_allowed kind last cs (length cs) (record { some = s; within = omega arith; folded = λ h. absurd (omega arith) }) (λ q. t) (rw (take_all (length cs) cs (omega arith)) e) e
+
+pub some_way : (kind : Kind) (last : Bool) (cs : List Component) → FlatStands kind last → 0 < length cs → unbarred cs ≡ true → SomeWay (may_stand kind last) cs
+some_way kind last cs t s e = allowed_some (may_stand kind last) cs (length cs) (s, omega arith, flat_allowed kind last cs t s e)
+
+-- To one that may not end there none is: it has no width.
+pub barred_end : (kind : Kind) (last : Bool) (cs : List Component) (g0 limit : ℕ) → unbarred cs ≡ false → least_width_by (may_stand kind last) g0 cs limit ≡ none
 unfolding least_width_by
-barred_end kind cs g0 limit e = go (ways_of (may_stand kind) cs) (λ p i. (in_ways (may_stand kind cs) (length cs) p i).2)
+barred_end kind last cs g0 limit e = go (ways_of (may_stand kind last) cs) (λ p i. (in_ways (may_stand kind last cs) (length cs) p i).2)
   where
-    go : (l : List ℕ) → ((p : ℕ) → In p l → may_stand kind cs p ≡ true) → cond (is_end l) none (least_cap (may_stand kind) g0 cs limit) ≡ none
+    go : (l : List ℕ) → ((p : ℕ) → In p l → may_stand kind last cs p ≡ true) → cond (is_end l) none (least_cap (may_stand kind last) g0 cs limit) ≡ none
     go [] f = refl
-    go (p ∷ l) f = absurd (true≢false (sym (may_end kind cs p (f p (inl refl))) ∙ e))
+    go (p ∷ l) f = absurd (true≢false (sym (may_end kind last cs p (f p (inl refl))) ∙ e))
 
-pub met_end : (kind : Kind) (cs : List Component) (g0 limit : ℕ) → least_width_by (may_stand kind) g0 cs limit < none → unbarred cs ≡ true
-met_end kind cs g0 limit h = go (either (unbarred cs))
-  where
-    go : (unbarred cs ≡ true) ⊎ (unbarred cs ≡ false) → unbarred cs ≡ true
-    go (inl e) = e
-    go (inr e) = absurd (omega (arith, barred_end kind cs g0 limit e))
+-- A group to which some way is allowed may end there.
+pub way_end : (kind : Kind) (last : Bool) (cs : List Component) → SomeWay (may_stand kind last) cs → unbarred cs ≡ true
+way_end kind last cs e =
+    let w = first_in (ways_of (may_stand kind last) cs) e in
+    may_end kind last cs w.0 (in_ways (may_stand kind last cs) (length cs) w.0 w.1).2

@@ -1,7 +1,7 @@
 -- The least height of one group whose width may be at most a cap, over all its ways of standing, and the least width for a
 -- height.
 -- Nothing here is part of a public promise: `proofs/Lower.antt` and `proofs/Exact.antt` show what it comes to.
-use Rattle.std.specs.Prelude.{ℕ, zero, suc, ◌+◌, ◌≤◌, ◌<◌, min, max, ◌≡◌, Bool, true, not, cond, ◌&&◌, length, take, drop, leb, eqb}
+use Rattle.std.specs.Prelude.{ℕ, zero, suc, ◌+◌, ◌≤◌, ◌<◌, min, max, ◌≡◌, Bool, true, false, not, cond, ◌&&◌, ◌||◌, length, take, drop, leb, eqb}
 use mathlib.Core.List.{List, [], ◌∷◌, reverse_aux, map}
 use Rattle.terms.specs.declared.Component.{Component}
 use Rattle.terms.specs.declared.Kind.{Kind}
@@ -38,18 +38,19 @@ fold_height g0 cs cap p = rows cap 0 0 (left_side p cs) (right_side p cs) + max 
 abbrev pub May : Type 0
 May = List Component → ℕ → Bool
 
--- The rule of document 01: apart all of them, nested any.
-abbrev pub on_sides : Kind → May
-on_sides Apart cs p = eqb p (length cs)
-on_sides Nested cs p = true
+-- The rule of document 01: apart all of them, nested any; and with ticket 5, nested, all of them only where the group stands
+-- last.
+abbrev pub on_sides : Kind → Bool → May
+on_sides Apart last cs p = eqb p (length cs)
+on_sides Nested last cs p = last || not (eqb p (length cs))
 
 -- The last of them is not barred.
 abbrev pub unbarred : List Component → Bool
 unbarred cs = not (eqb (gap_behind (λ x. x.mark) cs) 1)
 
 -- With the rule of ticket 3: a group has neither its fold nor its end behind a barred component.
-unfoldable pub may_stand : Kind → May
-may_stand kind cs p = on_sides kind cs p && unbarred (take p cs) && unbarred cs
+unfoldable pub may_stand : Kind → Bool → May
+may_stand kind last cs p = on_sides kind last cs p && unbarred (take p cs) && unbarred cs
 
 -- The height of the group that stands so.
 abbrev pub way_height : ℕ → List Component → ℕ → ℕ → ℕ
@@ -68,6 +69,10 @@ lowest f (p ∷ q ∷ l) = min (f p) (lowest f (q ∷ l))
 
 abbrev pub ways_of : May → List Component → List ℕ
 ways_of may cs = ways (may cs) (length cs)
+
+-- Some way is allowed to the group.
+abbrev pub SomeWay : May → List Component → Type 0
+SomeWay may cs = is_end (ways_of may cs) ≡ false
 
 unfoldable pub least_height_by : May → ℕ → List Component → ℕ → ℕ
 least_height_by may g0 cs cap = lowest (way_height g0 cs cap) (ways_of may cs)
@@ -93,15 +98,15 @@ pub record FoldPointBy (may : May) (g0 : ℕ) (cs : List Component) (cap p : ℕ
   pub allowed : may cs p ≡ true
   pub least : least_height_by may g0 cs cap ≡ way_height g0 cs cap p
 
--- The same for a kind.
-abbrev pub least_height : Kind → ℕ → List Component → ℕ → ℕ
-least_height kind g0 cs cap = least_height_by (may_stand kind) g0 cs cap
+-- The same for a kind, and for a group that stands last or not.
+abbrev pub least_height : Kind → Bool → ℕ → List Component → ℕ → ℕ
+least_height kind last g0 cs cap = least_height_by (may_stand kind last) g0 cs cap
 
-abbrev pub least_width : Kind → ℕ → List Component → ℕ → ℕ
-least_width kind g0 cs limit = least_width_by (may_stand kind) g0 cs limit
+abbrev pub least_width : Kind → Bool → ℕ → List Component → ℕ → ℕ
+least_width kind last g0 cs limit = least_width_by (may_stand kind last) g0 cs limit
 
-abbrev pub FoldPoint : Kind → ℕ → List Component → ℕ → ℕ → Type 0
-FoldPoint kind g0 cs cap p = FoldPointBy (may_stand kind) g0 cs cap p
+abbrev pub FoldPoint : Kind → Bool → ℕ → List Component → ℕ → ℕ → Type 0
+FoldPoint kind last g0 cs cap p = FoldPointBy (may_stand kind last) g0 cs cap p
 
 -- The placements of the group numbered m that stands so.
 abbrev pub on_left : ℕ → List ℕ → List Placement

@@ -1,9 +1,13 @@
 -- What the heights of one group ask, and what a fold adds to them.
-use Rattle.std.specs.Prelude.{ℕ, ◌+◌, ◌-◌, ◌≤◌, ◌≡◌, List, true, cond, length}
+use Rattle.std.specs.Prelude.{ℕ, ◌+◌, ◌-◌, ◌≤◌, ◌≡◌, List, Bool, true, cond, length}
 use Rattle.terms.specs.Numbers.{most_size}
 use Rattle.terms.specs.Seams.{gap_at, barred_at, components_in}
 use Rattle.group.specs.Group.{none, unbarred}
 use Rattle.group_table.specs.Table.{Asks}
+
+-- The height of a nested group without a fold, where it may stand so: more than every limit where it does not stand last.
+abbrev pub flat_rows : Bool → ℕ → ℕ
+flat_rows last flat = cond last flat none
 
 -- The rows that a fold behind the first p components adds to those of its sides, where `outer` is the larger of the gaps before
 -- and behind the group: more than every limit where the fold is barred.

@@ -1,5 +1,5 @@
 -- What is known of one group from earlier searches, in one number of 32 bits: a word.
-use Rattle.std.specs.Prelude.{ℕ, ◌/◌, ◌%◌, ◌≤◌, ◌<◌, ◌≡◌, List}
+use Rattle.std.specs.Prelude.{ℕ, ◌/◌, ◌%◌, ◌≤◌, ◌<◌, ◌≡◌, List, Bool}
 use Rattle.terms.specs.declared.Kind.TheVariants.{Nested}
 use Rattle.terms.specs.Seams.{components_in}
 use Rattle.group.specs.Group.{flat_height, least_height}
@@ -26,13 +26,13 @@ abbrev pub never : ℕ
 never = 8191
 
 -- No cap below the width keeps the limit; and the height, if it is known, is the least one at that width.
-pub record Holds (g0 : ℕ) (hs ws gs : List ℕ) (limit wide word : ℕ) : Type 0 where
-  pub over : Over g0 hs ws gs limit wide (word_width word)
+pub record Holds (last : Bool) (g0 : ℕ) (hs ws gs : List ℕ) (limit wide word : ℕ) : Type 0 where
+  pub over : Over last g0 hs ws gs limit wide (word_width word)
   pub least : word_height word < unknown
-      → (wide ≤ word_width word) × (word_height word ≡ least_height Nested g0 (components_in hs ws gs) (word_width word))
+      → (wide ≤ word_width word) × (word_height word ≡ least_height Nested last g0 (components_in hs ws gs) (word_width word))
 
 -- The table of the search, and the word of the group.
-pub record MemoryAsks (g0 flat : ℕ) (hs ws gs es : List ℕ) (word limit wide cap : ℕ) : Type 0 where
+pub record MemoryAsks (last : Bool) (g0 flat : ℕ) (hs ws gs es : List ℕ) (word limit wide cap : ℕ) : Type 0 where
   pub asks : WidthAsks g0 hs ws gs es limit wide cap
   pub is_flat : flat ≡ flat_height g0 (components_in hs ws gs)
-  pub holds : Holds g0 hs ws gs limit wide word
+  pub holds : Holds last g0 hs ws gs limit wide word

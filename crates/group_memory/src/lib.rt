@@ -63,10 +63,10 @@ fn search(
     low: Slices,
     cap: Slices,
 ) -> Option<Outline>
-    requires { columns stack.now (LowAsks sought.before.0 sought.flat.0) table.old
+    requires { columns stack.now (LowAsks sought.last sought.before.0 sought.flat.0) table.old
         sought.limit.0 sought.widest.0 low.0 cap.0 }
-    ensures narrow { columns stack.now (Narrow sought.before.0) sought.limit.0 cap.0 result }
-    ensures holds { columns stack.now (Holds sought.before.0) sought.limit.0 sought.widest.0 word.new }
+    ensures narrow { columns stack.now (Narrow sought.last sought.before.0) sought.limit.0 cap.0 result }
+    ensures holds { columns stack.now (Holds sought.last sought.before.0) sought.limit.0 sought.widest.0 word.new }
     ensures beyond { drop cells table.new ≡ drop cells table.old }
 {
     let found = group_search::narrowest(sought, stack, &mut table[..CELLS], low, cap);
@@ -83,10 +83,10 @@ pub fn narrowest(
     word: &mut u32,
     cap: Slices,
 ) -> Option<Outline>
-    requires { columns stack.now (MemoryAsks sought.before.0 sought.flat.0) table.old word.old
+    requires { columns stack.now (MemoryAsks sought.last sought.before.0 sought.flat.0) table.old word.old
         sought.limit.0 sought.widest.0 cap.0 }
-    ensures narrow { columns stack.now (Narrow sought.before.0) sought.limit.0 cap.0 result }
-    ensures holds { columns stack.now (Holds sought.before.0) sought.limit.0 sought.widest.0 word.new }
+    ensures narrow { columns stack.now (Narrow sought.last sought.before.0) sought.limit.0 cap.0 result }
+    ensures holds { columns stack.now (Holds sought.last sought.before.0) sought.limit.0 sought.widest.0 word.new }
     ensures beyond { drop cells table.new ≡ drop cells table.old }
 {
     match recall(*word, sought.limit) {

@@ -1,5 +1,5 @@
 -- What the functions inside this crate promise each other. Nothing here is part of a public promise.
-use Rattle.std.specs.Prelude.{ℕ, ◌+◌, ◌*◌, ◌≤◌, ◌<◌, min, ◌≡◌, List, Result, Ok, Err, length, get_or}
+use Rattle.std.specs.Prelude.{ℕ, ◌+◌, ◌*◌, ◌≤◌, ◌<◌, min, ◌≡◌, List, Bool, Result, Ok, Err, length, get_or}
 use Rattle.terms.specs.Numbers.{most_size, most_nested, most_limit}
 use Rattle.terms.specs.declared.Kind.TheVariants.{Nested}
 use Rattle.terms.specs.Seams.{components_in}
@@ -130,28 +130,29 @@ pub record SearchAsks (g0 flat : ℕ) (hs ws gs es : List ℕ) (limit low cap : 
 
 -- The least height if it is within the limit, and else one more than the limit; the same for every cap that is at least `fit`
 -- and under `clash`.
-pub record Searched (g0 : ℕ) (hs ws gs : List ℕ) (limit cap : ℕ) (s : Run) : Type 0 where
+pub record Searched (last : Bool) (g0 : ℕ) (hs ws gs : List ℕ) (limit cap : ℕ) (s : Run) : Type 0 where
   pub fits : s.fit.0 ≤ cap
   pub clashes : cap < s.clash.0
-  pub least : (c : ℕ) → s.fit.0 ≤ c → c < s.clash.0 → s.height.0 ≡ min (limit + 1) (least_height Nested g0 (components_in hs ws gs) c)
+  pub least : (c : ℕ) → s.fit.0 ≤ c → c < s.clash.0 → s.height.0 ≡ min (limit + 1) (least_height Nested last g0 (components_in hs ws gs) c)
 
 -- So the cap leads to a height within the limit, which is the least one at the outline's width;
-pub record Met (g0 : ℕ) (hs ws gs : List ℕ) (limit low cap : ℕ) (o : Outline) : Type 0 where
+pub record Met (last : Bool) (g0 : ℕ) (hs ws gs : List ℕ) (limit low cap : ℕ) (o : Outline) : Type 0 where
   pub from : low ≤ o.width.0
   pub to : o.width.0 ≤ cap
-  pub height : o.height.0 ≡ least_height Nested g0 (components_in hs ws gs) o.width.0
+  pub height : o.height.0 ≡ least_height Nested last g0 (components_in hs ws gs) o.width.0
   pub within : o.height.0 ≤ limit
 
 -- or to none, and no cap below `least` does.
-pub record Missed (g0 : ℕ) (hs ws gs : List ℕ) (limit cap least : ℕ) : Type 0 where
+pub record Missed (last : Bool) (g0 : ℕ) (hs ws gs : List ℕ) (limit cap least : ℕ) : Type 0 where
   pub clashes : cap < least
-  pub over : (c : ℕ) → c < least → limit < least_height Nested g0 (components_in hs ws gs) c
+  pub over : (c : ℕ) → c < least → limit < least_height Nested last g0 (components_in hs ws gs) c
 
-abbrev pub Outcome : ℕ → List ℕ → List ℕ → List ℕ → ℕ → ℕ → ℕ → Result Outline Slices → Type 0
-Outcome g0 hs ws gs limit low cap (Ok o) = Met g0 hs ws gs limit low cap o
-Outcome g0 hs ws gs limit low cap (Err least) = Missed g0 hs ws gs limit cap least.0
+abbrev pub Outcome : Bool → ℕ → List ℕ → List ℕ → List ℕ → ℕ → ℕ → ℕ → Result Outline Slices → Type 0
+Outcome last g0 hs ws gs limit low cap (Ok o) = Met last g0 hs ws gs limit low cap o
+Outcome last g0 hs ws gs limit low cap (Err least) = Missed last g0 hs ws gs limit cap least.0
 
--- A cap from which the halving may start: if it is not the greatest one, the group keeps the limit without a fold.
+-- A cap from which the halving may start: if it is not the greatest one, the group keeps the limit without a fold, and may
+-- stand so.
 pub record FirstCap (flat limit low cap top : ℕ) : Type 0 where
   pub from : low ≤ top
   pub to : top ≤ cap

@@ -6,6 +6,7 @@ ghost use Rattle.std.specs.Prelude.{◌≡◌, ◌+◌, ◌≤◌, length};
 ghost use Rattle.std.specs.Result.{result_ok};
 ghost use Rattle.terms.specs.Pieces.{heights_in, seams_in, columns, sizes};
 ghost use Rattle.group_table.specs.Inner.{Low};
+ghost use Rattle.group_height.specs.Heights.{flat_rows};
 ghost use Rattle.group_search.specs.Inner.{Bordered, OfferAsks, Offered};
 ghost use Rattle.group_search.specs.Inner.{SettleAsks, Settled, TurnAsks, Moved, RowAsks, RowMoved, RowsAsk, RowsMoved};
 ghost use Rattle.group_search.specs.Inner.{ClearRowAsks, RowCleared, ClearAsks, Cleared};
@@ -14,15 +15,17 @@ ghost use Rattle.group_search.specs.Widths.{Narrow, Over, LowAsks, bound_in};
 
 use folding::Outline;
 use group::NONE;
-use group_height::fold_rows;
+use group_height::{flat_rows, fold_rows};
 use group_table::{Standing, Stop, walk};
 use numbers::{STRIDE, cell, gap, height, width};
 use terms::{Piece, Rows, Slices};
 
-// What is asked of a group: the gap before it, its height without a fold, the limit for its height, and its widest component.
+// What is asked of a group: the gap before it, whether it stands last, its height without a fold, the limit for its height, and
+// its widest component.
 #[derive(Clone, Copy, Debug, PartialEq, Eq)]
 pub struct Sought {
     pub before: Rows,
+    pub last: bool,
     pub flat: Rows,
     pub limit: Rows,
     pub widest: Slices,
@@ -169,13 +172,13 @@ fn search(
     cap: Slices,
 ) -> Result<Outline, Slices>
     requires { columns stack.now (SearchAsks sought.before.0 sought.flat.0) e.old sought.limit.0 low.0 cap.0 }
-    ensures outcome { columns stack.now (Outcome sought.before.0) sought.limit.0 low.0 cap.0 result }
+    ensures outcome { columns stack.now (Outcome sought.last sought.before.0) sought.limit.0 low.0 cap.0 result }
     ensures bordered { Bordered (heights_in stack.now) e.new }
 {
     let outer = sought.before.0.max(gap(stack, stack.len() - 1));
     clear(stack, e, outer);
     let start = Run {
-        height: Rows(sought.limit.0 + 1).min(sought.flat),
+        height: Rows(sought.limit.0 + 1).min(flat_rows(sought.last, sought.flat)),
         fit: low,
         clash: Slices(NONE),
     };
@@ -186,12 +189,12 @@ fn search(
     Ok(Outline { width: fit, height })
 }
 
-// The cap to start with: a group that keeps the limit without a fold keeps it at every cap.
+// The cap to start with: a group that keeps the limit without a fold, and may stand so, keeps it at every cap.
 fn first_cap(sought: Sought, low: Slices, cap: Slices) -> Slices
     requires { low.0 ≤ cap.0 }
-    ensures { FirstCap sought.flat.0 sought.limit.0 low.0 cap.0 result.0 }
+    ensures { FirstCap (flat_rows sought.last sought.flat.0) sought.limit.0 low.0 cap.0 result.0 }
 {
-    if sought.flat <= sought.limit {
+    if flat_rows(sought.last, sought.flat) <= sought.limit {
         low
     } else {
         cap
@@ -208,10 +211,10 @@ pub fn narrowest(
     low: Slices,
     cap: Slices,
 ) -> Result<Outline, Slices>
-    requires { columns stack.now (LowAsks sought.before.0 sought.flat.0) e.old
+    requires { columns stack.now (LowAsks sought.last sought.before.0 sought.flat.0) e.old
         sought.limit.0 sought.widest.0 low.0 cap.0 }
-    ensures narrow { columns stack.now (Narrow sought.before.0) sought.limit.0 cap.0 (result_ok result) }
-    ensures over { columns stack.now (Over sought.before.0) sought.limit.0 sought.widest.0 (bound_in result) }
+    ensures narrow { columns stack.now (Narrow sought.last sought.before.0) sought.limit.0 cap.0 (result_ok result) }
+    ensures over { columns stack.now (Over sought.last sought.before.0) sought.limit.0 sought.widest.0 (bound_in result) }
 {
     let top = first_cap(sought, low, cap);
     borders(stack, e);

@@ -1,5 +1,5 @@
--- The known stacks (document 01, "Known stacks"; tickets 1 and 3): one list of lines, each a claim about all legal foldings of
--- its stack and kind or about a refusal, and about what the calls answer.
+-- The known stacks (document 01, "Known stacks"; tickets 1, 3 and 5): one list of lines, each a claim about all legal foldings
+-- of its stack and kind or about a refusal, and about what the calls answer.
 use Rattle.std.specs.Prelude.{ℕ, zero, suc, ◌*◌, ◌≤◌, ◌≡◌, List, [], ◌∷◌, length, drop}
 use Rattle.terms.specs.declared.Component.{Component}
 use Rattle.terms.specs.declared.Kind.{Kind}
@@ -155,8 +155,8 @@ E = c 1 3 0 ∷ c 1 1 0 ∷ c 1 1 0 ∷ c 1 3 0 ∷ []
 abbrev pub F : List Component
 F = c 2 5 0 ∷ c 1 4 0 ∷ c 1 1 0 ∷ c 1 4 0 ∷ c 1 1 0 ∷ []
 
--- B and E with their second component barred, E with all but the last, and F with its third, behind which its folding of 10
--- slices in 2 rows has its fold.
+-- B and E with their second component barred, E with all but the last, and F with its third, behind which its folding of 5
+-- slices in 4 rows has its fold.
 abbrev pub B2 : List Component
 B2 = c 3 1 0 ∷ b 1 1 0 ∷ c 2 1 0 ∷ c 4 1 0 ∷ []
 
@@ -168,6 +168,19 @@ E123 = b 1 3 0 ∷ b 1 1 0 ∷ b 1 1 0 ∷ c 1 3 0 ∷ []
 
 abbrev pub F3 : List Component
 F3 = c 2 5 0 ∷ c 1 4 0 ∷ b 1 1 0 ∷ c 1 4 0 ∷ c 1 1 0 ∷ []
+
+-- Ticket 5: with its first component without a right side in front, F would have a folding of 10 slices in 2 rows. FH is F with
+-- that component in two halves, which are a group with a fold, so that FH has such a folding; in FH1 they may not be parted.
+abbrev pub FH : List Component
+FH = c 1 5 0 ∷ c 1 5 0 ∷ c 1 4 0 ∷ c 1 1 0 ∷ c 1 4 0 ∷ c 1 1 0 ∷ []
+
+abbrev pub FH1 : List Component
+FH1 = b 1 5 0 ∷ c 1 5 0 ∷ c 1 4 0 ∷ c 1 1 0 ∷ c 1 4 0 ∷ c 1 1 0 ∷ []
+
+-- Apart each is a group of its own in 3 rows. Nested the first group needs a right side, so it has two components at least,
+-- and is 4 rows high or more.
+abbrev pub G : List Component
+G = c 2 1 1 ∷ c 1 1 1 ∷ c 2 1 0 ∷ []
 
 -- n components 1/1 without gaps.
 unfoldable pub units : ℕ → List Component
@@ -190,9 +203,11 @@ lines =
     ∷ to_height Apart C 1 (refusal 9)
     ∷ to_height Nested C 1 (refusal 9)
     ∷ to_width Nested D 10 (result (o 10 14))
+    ∷ table Nested D (o 9 16 ∷ o 10 14 ∷ o 18 10 ∷ o 19 9 ∷ o 27 6 ∷ o 29 5 ∷ [])
     ∷ table Apart E (o 3 4 ∷ o 6 2 ∷ o 8 1 ∷ [])
     ∷ table Nested E (o 3 3 ∷ o 6 2 ∷ o 8 1 ∷ [])
-    ∷ to_height Nested F 2 (result (o 10 2))
+    ∷ to_height Nested F 2 (result (o 13 2))
+    ∷ table Nested F (o 5 4 ∷ o 9 3 ∷ o 13 2 ∷ [])
     ∷ table Apart B2 (o 1 10 ∷ o 2 6 ∷ o 3 4 ∷ [])
     ∷ table Nested B2 (o 1 10 ∷ o 2 6 ∷ o 3 4 ∷ [])
     ∷ table Apart E2 (o 3 4 ∷ o 6 3 ∷ o 7 2 ∷ [])
@@ -202,7 +217,15 @@ lines =
     ∷ table Apart E123 (o 3 4 ∷ [])
     ∷ table Nested E123 (o 3 4 ∷ [])
     ∷ to_height Nested E123 3 (refusal 9)
-    ∷ to_height Nested F3 2 (result (o 11 2))
+    ∷ to_height Nested F3 4 (result (o 6 4))
+    ∷ table Nested F3 (o 5 5 ∷ o 6 4 ∷ o 9 3 ∷ o 13 2 ∷ [])
+    ∷ to_height Nested FH 2 (result (o 10 2))
+    ∷ to_height Nested FH1 2 (result (o 13 2))
+    ∷ table Apart G (o 1 5 ∷ o 2 4 ∷ o 3 3 ∷ [])
+    ∷ table Nested G (o 1 5 ∷ o 2 4 ∷ [])
+    ∷ to_height Nested G 3 (refusal 9)
+    ∷ to_height Nested (units 2) 1 (result (o 2 1))
+    ∷ to_height Nested (units 3) 1 (result (o 3 1))
     ∷ table Apart (b 4 1 1 ∷ c 4 1 0 ∷ []) (o 1 8 ∷ [])
     ∷ table Nested (b 4 1 1 ∷ c 4 1 0 ∷ []) (o 1 8 ∷ [])
     ∷ smallest_area Apart A (o 2 3)
@@ -218,7 +241,9 @@ lines =
     ∷ smallest_area Apart F (o 13 2)
     ∷ smallest_area Nested F (o 5 4)
     ∷ smallest_area Nested E2 (o 3 4)
-    ∷ smallest_area Nested F3 (o 11 2)
+    ∷ smallest_area Nested F3 (o 6 4)
+    ∷ smallest_area Nested FH1 (o 5 4)
+    ∷ smallest_area Nested G (o 1 5)
     ∷ header [] 1
     ∷ header (83 ∷ 84 ∷ 76 ∷ 3 ∷ 0 ∷ 1 ∷ 0 ∷ []) 1
     ∷ header (83 ∷ 84 ∷ 75 ∷ 0 ∷ 0 ∷ 1 ∷ 0 ∷ []) 2

@@ -17,7 +17,7 @@ use Rattle.model.proofs.Best.{Below, others_wider, others_higher}
 use Rattle.layout.specs.Layout.{Layout, layout_of}
 use Rattle.layout.proofs.Groups.{Stacked}
 use Rattle.layout.proofs.Folds.{Folds}
-use Rattle.layout.proofs.Marks.{legal_obeys, obeys_legal}
+use Rattle.layout.proofs.Obeying.{legal_obeys, obeys_legal}
 use Rattle.layout.proofs.Foldings.{search}
 
 module _ (kind : Kind) (cs : List Component) where
@@ -29,7 +29,7 @@ module _ (kind : Kind) (cs : List Component) where
   FoldsAs ps b = Folds kind 0 0 cs ps b.width b.height
 
   folds_legal : (ps : List Placement) (b : Layout) → FoldsAs ps b → Legal kind cs ps
-  folds_legal ps b f = obeys_legal kind cs ps f.whole f.legal f.unparted
+  folds_legal ps b f = obeys_legal kind cs ps f.whole f.legal f.obeys
 
   folds_outline : (ps : List Placement) (b : Layout) → FoldsAs ps b → outline_of cs ps ≡ outline_by b
   folds_outline ps b f = rw (f.width, f.height)
@@ -38,7 +38,7 @@ module _ (kind : Kind) (cs : List Component) where
   legal_folds s ps b l e = record {
     whole = l.whole;
     legal = legal_is kind (placed_of cs ps) l.rules;
-    unparted = legal_obeys kind cs ps s.free l;
+    obeys = legal_obeys kind cs ps s.free l;
     width = ap (λ (o : Outline). o.width.0) e;
     height = ap (λ (o : Outline). o.height.0) e;
   }

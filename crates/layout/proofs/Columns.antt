@@ -1,8 +1,10 @@
 -- The columns of a stack, and those of its first components and of the rest.
 use Prim.Native.Nat.{ℕ, zero, suc, ◌+◌, ◌-◌, ◌≤◌, ◌<◌}
-use mathlib.Core.Path.{◌≡◌, sym, ◌∙◌}
+use mathlib.Core.Path.{◌≡◌, refl, sym, ◌∙◌}
+use mathlib.Core.Logic.{◌⊎◌, inl, inr}
 use mathlib.Core.List.{List, [], ◌∷◌, ◌++◌}
 use native.Mathlib.Omega.{arith}
+use lib.Dec.{eqb}
 use lib.ListN.{length, get_or, take, drop, length-drop}
 use lib.Seq.{length-take-le, get_or-take, get_or-drop, ext_get_or}
 use Rattle.terms.specs.declared.Component.{Component}
@@ -11,6 +13,9 @@ use Rattle.terms.specs.Component.{tabulate}
 use Rattle.terms.specs.Seams.{component_in, components_in}
 use Rattle.terms.proofs.Tabulate.{tabulate-length, tabulate_at, tabulate_same}
 use Rattle.terms.proofs.Answers.{most_256}
+use Rattle.terms.proofs.Order.{order}
+use Rattle.std.proofs.lemmas.Bool.{eq-eqb, ne_eqb}
+use Rattle.model.specs.Groups.{is_end}
 use Rattle.terms.proofs.Lists.{Sized, AllSized}
 use Rattle.group.specs.Table.{Columns}
 use Rattle.group.proofs.Indices.{take-tabulate}
@@ -115,3 +120,14 @@ good_lists {kind} {hs} {ws} {gs} s = record {
   sized = sized_lists s;
   gapped = gaps_tabulate (component_in hs ws gs) (length hs) s.near;
 }
+
+-- Behind how many components nothing follows.
+pub end_drop : (cs : List Component) (k : ℕ) → k ≤ length cs → eqb k (length cs) ≡ is_end (drop k cs)
+end_drop [] zero h = refl
+end_drop [] (suc k) h = absurd (omega arith)
+end_drop (x ∷ cs) zero h = ne_eqb 0 (suc (length cs)) (λ e. omega arith)
+end_drop (x ∷ cs) (suc k) h = go (order (length cs) k) (end_drop cs k (omega arith))
+  where
+    go : (length cs ≤ k) ⊎ (k < length cs) → eqb k (length cs) ≡ is_end (drop k cs) → eqb (suc k) (suc (length cs)) ≡ is_end (drop k cs)
+    go (inl o) e = eq-eqb (suc k) (suc (length cs)) (omega arith) ∙ sym (eq-eqb k (length cs) (omega arith)) ∙ e
+    go (inr o) e = ne_eqb (suc k) (suc (length cs)) (λ z. omega arith) ∙ sym (ne_eqb k (length cs) (λ z. omega arith)) ∙ e

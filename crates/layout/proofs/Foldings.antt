@@ -1,5 +1,5 @@
 -- Legal foldings and layouts of legal groups are the same, so the search over layouts is one over all legal foldings.
-use Prim.Native.Nat.{ℕ, zero, suc, ◌+◌, ◌≤◌}
+use Prim.Native.Nat.{ℕ, zero, suc, ◌+◌, ◌≤◌, max}
 use mathlib.Core.Path.{◌≡◌, refl, sym, ap, ◌∙◌, subst}
 use mathlib.Core.List.{List, [], ◌∷◌, ◌++◌, map}
 use mathlib.Core.Bool.{Bool, true}
@@ -12,7 +12,7 @@ use Rattle.folding.specs.declared.Placement.{Placement}
 use Rattle.folding.specs.Placement.{group_of, left, placed_of}
 use Rattle.folding.specs.Legal.{Legal}
 use Rattle.folding.specs.Outline.{groups_of, group_width, group_height, last_gap, layout_width, layout_height, outline_of}
-use Rattle.folding.proofs.Rules.{Alone, LegalFrom, Unparted, legal_is}
+use Rattle.folding.proofs.Rules.{Alone, LegalFrom, legal_is}
 use Rattle.folding.proofs.Groups.{Run, cut, paste_width, paste_height}
 use Rattle.folding.proofs.Sides.{Fronted}
 use Rattle.model.specs.Groups.{is_end, Rule, Group, members_of, width_of, height_of, Stands, LayoutOf}
@@ -23,14 +23,16 @@ use Rattle.model.proofs.Layouts.{layouts_search}
 use Rattle.model.proofs.Transfer.{transfer}
 use Rattle.group.specs.Rows.{gap}
 use Rattle.group.specs.Group.{gap_after, May, may_stand}
-use Rattle.group.proofs.Ways.{Suits, suits, stands_allowed}
+use Rattle.group.proofs.Ways.{Suits, suits, flat_stands, stands_allowed}
 use Rattle.group.proofs.Lower.{components_of, lefts_in, last_gap_lem, group_stands}
 use Rattle.group.proofs.Placed.{components_placed}
 use Rattle.group.proofs.Exact.{GroupFolds}
 use Rattle.layout.specs.Layout.{groups_by, layout_of}
-use Rattle.layout.proofs.Folds.{Folds, placed-append, folds_none, folds_join}
+use Rattle.layout.proofs.Folds.{FoldsBy, placed-append, folds_none, folds_join}
 use Rattle.layout.proofs.Groups.{legal_group, Stacked, groups_laws}
-use Rattle.layout.proofs.Marks.{rest_unparted, end_free, fold_free, join_allowed, legal_obeys, obeys_legal}
+use Rattle.layout.proofs.Marks.{rest_unparted, end_free, fold_free, join_allowed}
+use Rattle.layout.proofs.Turns.{rest_turned, flat_last, join_turned}
+use Rattle.layout.proofs.Obeying.{Obeys, legal_obeys, obeys_legal}
 
 -- Placed components, taken apart and put together again.
 abbrev placements_in : List Placed → List Placement
@@ -60,10 +62,9 @@ components_end [] = refl
 components_end (x ∷ l) = refl
 
 -- What foldings obey beside the rules of `LegalFrom`, and what ways of standing are allowed to their groups, say the same: of a
--- first group x and a, and the rest b. What they obey holds the rule of marks, which every legal folding keeps.
+-- first group x and a, and the rest b.
 pub record Agrees (kind : Kind) (may : Bool → May) (Obeys : List Placed → Type 0) : Type 0 where
   pub fits : (last : Bool) → Suits kind (may last)
-  pub marks : (l : List Placed) → Obeys l → Unparted l
   pub nothing : Obeys []
   pub cuts : (x : Placed) (a b : List Placed) → left x ≡ true → Alone kind x → Run kind x a → LegalFrom kind (group_of x + 1) b → Obeys (x ∷ (a ++ b))
       → Obeys b × (may (is_end b) (components_of (x ∷ a)) (lefts_in (x ∷ a)) ≡ true)
@@ -146,17 +147,17 @@ module _ {kind : Kind} {may : Bool → May} {Obeys : List Placed → Type 0} (ag
       (agrees.joins f.first f.mates b f.on_the_left f.run (rw f.numbered t) o
       (rw (z, placed_end cs qs k) (subst (λ (l : List Placed). may (is_end cs) g (lefts_in l) ≡ true) f.order w)))
 
-  joined : (m g0 : ℕ) (gs : List (Group Component)) → Standing m g0 gs
-      → (ps : List Placement) × Folds kind m g0 (members_of gs) ps (width_of gs) (height_of gs) × Obeys (placed_of (members_of gs) ps)
+  pub folds_front : (m g0 : ℕ) (g : List Component) (ps : List Placement) (w h : ℕ) (cs : List Component) (qs : List Placement) (w' h' : ℕ) → GroupFolds kind m g0 g ps w h
+      → may (is_end cs) g (lefts_in (placed_of g ps)) ≡ true → FoldsBy kind Obeys (m + 1) (gap_after g) cs qs w' h' → FoldsBy kind Obeys m g0 (g ++ cs) (ps ++ qs) (w + w') (max h h')
+  folds_front m g0 g ps w h cs qs w' h' f t r =
+      folds_join kind Obeys m g0 g ps w h cs qs w' h' f r (join_obeys m g cs ps qs f.whole r.whole f.group r.legal t r.obeys)
+
+  joined : (m g0 : ℕ) (gs : List (Group Component)) → Standing m g0 gs → (ps : List Placement) × FoldsBy kind Obeys m g0 (members_of gs) ps (width_of gs) (height_of gs)
   unfolding placed_of
-  joined m g0 [] s = ([], folds_none kind m g0, agrees.nothing)
+  joined m g0 [] s = ([], folds_none kind Obeys m g0 agrees.nothing)
   joined m g0 (g ∷ gs) s =
       let r = joined (m + 1) (gap_after g.members) gs s.1 in
-      let o = join_obeys m g.members (members_of gs) s.0.0 r.0 s.0.1.whole r.1.whole s.0.1.group r.1.legal s.0.2 r.2 in (
-        s.0.0 ++ r.0,
-        folds_join kind m g0 g.members s.0.0 g.width g.height (members_of gs) r.0 (width_of gs) (height_of gs) s.0.1 r.1 (agrees.marks _ o),
-        o,
-      )
+      (s.0.0 ++ r.0, folds_front m g0 g.members s.0.0 g.width g.height (members_of gs) r.0 (width_of gs) (height_of gs) s.0.1 s.0.2 r.1)
 
   pub legal_layout : (cs : List Component) (ps : List Placement) → LegalBy kind Obeys cs ps
       → (gs : List (Group Component)) × LayoutOf (λ x. gap x) Legally cs gs × (outline (width_of gs) (height_of gs) ≡ outline_of cs ps)
@@ -168,28 +169,29 @@ module _ {kind : Kind} {may : Bool → May} {Obeys : List Placed → Type 0} (ag
       → (ps : List Placement) × LegalBy kind Obeys cs ps × (outline_of cs ps ≡ outline (width_of gs) (height_of gs))
   layout_legal cs gs l =
       let r = joined 0 0 gs l.stands in
-      let f = subst (λ (k : List Component). Folds kind 0 0 k r.0 (width_of gs) (height_of gs)) l.holds r.1 in
-      let o = subst (λ (k : List Component). Obeys (placed_of k r.0)) l.holds r.2 in
-      (r.0, record { whole = f.whole; rules = f.legal; obeys = o }, rw (f.width, f.height))
+      let f = subst (λ (k : List Component). FoldsBy kind Obeys 0 0 k r.0 (width_of gs) (height_of gs)) l.holds r.1 in
+      (r.0, record { whole = f.whole; rules = f.legal; obeys = f.obeys }, rw (f.width, f.height))
 
   pub search_by : (cs : List Component) → Stacked cs → Search (LegalBy kind Obeys cs) (outline_of cs) (λ limit. layout_for (groups_by may) limit 0 cs)
   search_by cs s = transfer (legal_layout cs) (layout_legal cs) (layouts_search (groups_laws kind may agrees.fits) cs s.some s.good)
 
--- Document 01 has no rule beside those of `LegalFrom`; ticket 3 has that of the marks.
-pub marked : (kind : Kind) → Agrees kind (λ last. may_stand kind) Unparted
-marked kind = record {
-  fits = λ last. suits kind;
-  marks = λ l u. u;
-  nothing = tt;
-  cuts = λ x a b l e r f u. (
-    rest_unparted kind x a b u,
-    stands_allowed kind (components_of (x ∷ a)) (lefts_in (x ∷ a)) (group_stands kind x a l e r) (fold_free kind x a b l r f u) (end_free kind x a b r f u),
+-- Document 01 has no rule beside those of `LegalFrom`; ticket 3 has that of the marks, ticket 5 that of turning.
+pub ruled : (kind : Kind) → Agrees kind (may_stand kind) (Obeys kind)
+ruled kind = record {
+  fits = suits kind;
+  nothing = record { unparted = tt; turned = tt };
+  cuts = λ x a b l e r f o. (
+    record { unparted = rest_unparted kind x a b o.unparted; turned = rest_turned kind x a b o.turned },
+    stands_allowed kind (is_end b) (components_of (x ∷ a)) (lefts_in (x ∷ a)) (group_stands kind x a l e r) (flat_last kind x a b l r f o.turned) (fold_free kind x a b l r f o.unparted) (end_free kind x a b r f o.unparted),
   );
-  joins = λ x a b l r f u w. join_allowed kind x a b l r u w;
+  joins = λ x a b l r f o w. record {
+    unparted = join_allowed kind (is_end b) x a b l r o.unparted w;
+    turned = join_turned kind x a b r o.turned (λ n e. flat_stands kind (is_end b) (components_of (x ∷ a)) (lefts_in (x ∷ a)) e w);
+  };
 }
 
 pub search : (kind : Kind) (cs : List Component) → Stacked cs → Search (Legal kind cs) (outline_of cs) (λ limit. layout_of kind limit 0 cs)
 search kind cs s = transfer
     (λ ps l. (ps, record { whole = l.whole; rules = legal_is kind (placed_of cs ps) l.rules; obeys = legal_obeys kind cs ps s.free l }, refl))
     (λ ps l. (ps, obeys_legal kind cs ps l.whole l.rules l.obeys, refl))
-    (search_by (marked kind) cs s)
+    (search_by (ruled kind) cs s)

@@ -1,6 +1,8 @@
 pub mod Bounds
 pub mod Groups
 pub mod Marks
+pub mod Turns
+pub mod Obeying
 pub mod Folds
 pub mod Foldings
 pub mod Best

@@ -1,7 +1,7 @@
 -- The rule of marks is one about neighbours, and one about the ways in which groups stand: of a first group x and a, and the
 -- rest b, the two say the same.
-use Prim.Native.Nat.{ℕ, ◌+◌, ◌≤◌}
-use mathlib.Core.Path.{◌≡◌, refl, sym, ◌∙◌, subst}
+use Prim.Native.Nat.{◌+◌, ◌≤◌}
+use mathlib.Core.Path.{◌≡◌, refl, sym, ◌∙◌}
 use mathlib.Core.Logic.{◌⊎◌, inl, inr}
 use mathlib.Core.List.{List, [], ◌∷◌, ◌++◌}
 use mathlib.Core.Bool.{Bool, true, false, not, true≢false, false≢true, ◌&&◌}
@@ -15,10 +15,9 @@ use Rattle.terms.proofs.Bools.{both, one_of, or_left, or_right, and_is}
 use Rattle.folding.specs.declared.Placed.{Placed}
 use Rattle.folding.specs.declared.Placement.{Placement}
 use Rattle.folding.specs.Placement.{group_of, left, placed_of}
-use Rattle.folding.specs.Legal.{Legal, same_group, same_side, unparted}
-use Rattle.folding.proofs.Rules.{Within, down, turn, up, LegalFrom, Unparted, LastFree, legal_of, legal_unparted, unparted_pairs, pairs_unparted}
+use Rattle.folding.specs.Legal.{same_group, same_side, unparted}
+use Rattle.folding.proofs.Rules.{Within, down, turn, up, LegalFrom, Unparted, LastFree}
 use Rattle.folding.proofs.Groups.{Run}
-use Rattle.folding.proofs.Sides.{Fronted}
 use Rattle.model.specs.Groups.{gap_behind}
 use Rattle.group.specs.Group.{unbarred, may_stand}
 use Rattle.group.proofs.Ways.{may_fold, may_end}
@@ -91,15 +90,11 @@ module _ (kind : Kind) where
       go (up p q k) i = (together x y r.0 (right_side_lem y r.2.two_sides q ∙ sym (right_side_lem x s p)), i (λ n. absurd (true≢false (sym n ∙ q))))
 
 -- A group that stands in a way that is allowed, in front of placements that obey.
-pub join_allowed : (kind : Kind) (x : Placed) (a b : List Placed) → left x ≡ true → Run kind x a → Unparted b → may_stand kind (components_of (x ∷ a)) (lefts_in (x ∷ a)) ≡ true → Unparted (x ∷ (a ++ b))
-join_allowed kind x a b l r u w =
+pub join_allowed : (kind : Kind) (last : Bool) (x : Placed) (a b : List Placed) → left x ≡ true → Run kind x a → Unparted b → may_stand kind last (components_of (x ∷ a)) (lefts_in (x ∷ a)) ≡ true
+    → Unparted (x ∷ (a ++ b))
+join_allowed kind last x a b l r u w =
     let s : x.placement.side ≤ 1 = omega (arith, eqb-true x.placement.side 0 l) in
-    join_unparted kind x a b s r u (may_end kind (components_of (x ∷ a)) (lefts_in (x ∷ a)) w) (λ n. may_fold kind (components_of (x ∷ a)) (lefts_in (x ∷ a)) w)
-
-pub marks_join : (kind : Kind) (m : ℕ) (l b : List Placed) → Fronted kind m l → may_stand kind (components_of l) (lefts_in l) ≡ true → Unparted b → Unparted (l ++ b)
-marks_join kind m l b f w u =
-    let v = subst (λ (k : List Placed). may_stand kind (components_of k) (lefts_in k) ≡ true) f.order w in
-    rw f.order (join_allowed kind f.first f.mates b f.on_the_left f.run u v)
+    join_unparted kind x a b s r u (may_end kind last (components_of (x ∷ a)) (lefts_in (x ∷ a)) w) (λ n. may_fold kind last (components_of (x ∷ a)) (lefts_in (x ∷ a)) w)
 
 -- The last mark of a stack is 0.
 pub stack_free : (cs : List Component) → every good_mark cs ≡ true → unbarred cs ≡ true
@@ -108,17 +103,10 @@ stack_free [] e = refl
 stack_free (c ∷ []) e = let z = eqb-true c.mark 0 (both (good_mark c true) true e).0 in rw z
 stack_free (c ∷ d ∷ cs) e = stack_free (d ∷ cs) (both (good_mark c false) (every good_mark (d ∷ cs)) e).1
 
-last_free : (cs : List Component) (ps : List Placement) → length ps ≡ length cs → unbarred cs ≡ true → LastFree (placed_of cs ps)
+pub last_free : (cs : List Component) (ps : List Placement) → length ps ≡ length cs → unbarred cs ≡ true → LastFree (placed_of cs ps)
 unfolding placed_of gap_behind
 last_free [] ps e f = tt
 last_free (c ∷ cs) [] e f = absurd (omega arith)
 last_free (c ∷ []) (p ∷ ps) e f = not-true _ f
 last_free (c ∷ d ∷ cs) (p ∷ []) e f = absurd (omega arith)
 last_free (c ∷ d ∷ cs) (p ∷ q ∷ ps) e f = last_free (d ∷ cs) (q ∷ ps) (omega arith) f
-
--- A legal folding of a stack obeys, and one that keeps the other rules and obeys is legal.
-pub legal_obeys : (kind : Kind) (cs : List Component) (ps : List Placement) → unbarred cs ≡ true → Legal kind cs ps → Unparted (placed_of cs ps)
-legal_obeys kind cs ps f l = pairs_unparted (placed_of cs ps) (legal_unparted kind (placed_of cs ps) l.rules) (last_free cs ps l.whole f)
-
-pub obeys_legal : (kind : Kind) (cs : List Component) (ps : List Placement) → length ps ≡ length cs → LegalFrom kind 0 (placed_of cs ps) → Unparted (placed_of cs ps) → Legal kind cs ps
-obeys_legal kind cs ps w f u = record { whole = w; rules = legal_of kind (placed_of cs ps) f (unparted_pairs (placed_of cs ps) u) }

@@ -17,7 +17,7 @@ use Rattle.model.specs.Layout.{layout_for}
 use Rattle.model.proofs.Choice.{no_wider}
 use Rattle.model.proofs.Widths.{one_group, no_narrower}
 use Rattle.group.specs.Group.{none, widest, flat_height, May, may_stand, least_width_by}
-use Rattle.group.proofs.Ways.{flat_allowed}
+use Rattle.group.proofs.Ways.{last_flat, flat_allowed}
 use Rattle.layout.specs.Layout.{groups_by, layout_of}
 use Rattle.layout.proofs.Groups.{Stacked}
 use Rattle.layout.proofs.Widths.{Ranged, least_range, flat_met}
@@ -66,8 +66,8 @@ module _ (kind : Kind) (cs : List Component) (s : Stacked cs) where
   none_narrower ps l =
       let h = (outline_of cs ps).height.0 in
       let e = (search kind cs s).every h ps l (omega arith) in
-      omega (arith, no_wider e.0, layout_widest (λ last. may_stand kind) h 0 cs e.1)
+      omega (arith, no_wider e.0, layout_widest (may_stand kind) h 0 cs e.1)
 
   pub flat_enough : (layout_of kind (flat_height 0 cs) 0 cs).width ≤ widest cs
   flat_enough =
-      layout_flat (λ last. may_stand kind) (flat_height 0 cs) 0 cs s.some (omega (arith, widest_most cs s.good.sized)) (flat_allowed kind cs s.some s.free) (omega arith)
+      layout_flat (may_stand kind) (flat_height 0 cs) 0 cs s.some (omega (arith, widest_most cs s.good.sized)) (flat_allowed kind true cs (last_flat kind) s.some s.free) (omega arith)

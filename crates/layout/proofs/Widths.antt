@@ -11,8 +11,8 @@ use Rattle.terms.specs.declared.Kind.{Kind}
 use Rattle.terms.specs.declared.Kind.TheVariants.{Apart, Nested}
 use Rattle.group.specs.Rows.{tall}
 use Rattle.model.specs.Groups.{is_end}
-use Rattle.group.specs.Group.{none, widest, flat_height, May, ways_of, least_height_by, least_cap, least_width_by}
-use Rattle.group.proofs.Ways.{Allowed, Suits, SomeWay, way_flat, allowed_some, width_is, least_at}
+use Rattle.group.specs.Group.{none, widest, flat_height, May, ways_of, least_height_by, least_cap, least_width_by, SomeWay}
+use Rattle.group.proofs.Ways.{Allowed, Suits, way_flat, allowed_some, width_is, least_at}
 use Rattle.group.proofs.Falls.{two_sides, one_side, apart_point, apart_height}
 use Rattle.group.proofs.First.{Found, first_here, first_found, first_none}
 

@@ -1,6 +1,6 @@
 -- The best layout of a stack for a height: the recurrence of `model` over apart and nested groups.
 -- Nothing here is part of a public promise: `proofs/` shows what it comes to against every legal folding.
-use Rattle.std.specs.Prelude.{ℕ, List, Bool, true}
+use Rattle.std.specs.Prelude.{ℕ, List, Bool}
 use Rattle.terms.specs.declared.Component.{Component}
 use Rattle.terms.specs.declared.Kind.{Kind}
 use Rattle.model.specs.Groups.{Model}
@@ -17,13 +17,13 @@ groups_by may = record {
   height = λ limit g0 last cs. least_height_by (may last) g0 cs (least_width_by (may last) g0 cs limit);
 }
 
--- The groups of document 01, with the marks of ticket 3. It does not matter to them whether a group stands last.
+-- The groups of document 01, with tickets 3 and 5.
 abbrev pub groups : Kind → Model Component
-groups kind = groups_by (λ last. may_stand kind)
+groups kind = groups_by (may_stand kind)
 
--- The parts of the recurrence, by the kind. A candidate is told that its group stands last: these groups do not ask.
-abbrev pub candidate : Kind → ℕ → ℕ → List Component → Layout → ℕ → Layout
-candidate kind limit g0 group rest k = candidate_for (groups kind) limit g0 true group rest k
+-- The parts of the recurrence, by the kind.
+abbrev pub candidate : Kind → ℕ → ℕ → Bool → List Component → Layout → ℕ → Layout
+candidate kind limit g0 last group rest k = candidate_for (groups kind) limit g0 last group rest k
 
 abbrev pub scan : Kind → ℕ → ℕ → List Component → List Layout → ℕ → Layout
 scan kind limit g0 cs later k = scan_by (candidate_for (groups kind) limit) g0 cs later k

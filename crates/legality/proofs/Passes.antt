@@ -5,7 +5,7 @@ use Rattle.terms.specs.Component.{tabulate}
 use Rattle.terms.proofs.Tabulate.{tabulate-drop, tabulate_end}
 use Rattle.folding.specs.declared.Placed.{Placed}
 use Rattle.folding.specs.Placement.{group_of, left}
-use Rattle.folding.specs.Legal.{unparted, legal}
+use Rattle.folding.specs.Legal.{unparted, turned, legal}
 use Rattle.folding.proofs.Rules.{passes, legal_passes}
 use Rattle.legality.specs.Inner.{alone, follows}
 
@@ -21,7 +21,7 @@ module _ (kind : Kind) (g : ℕ → Placed) (n : ℕ) where
     pub pass_opened : b ≡ true → passes kind x (drop 1 (tabulate g n)) ≡ legal kind (tabulate g n)
     pass_opened z = rw (opened, z)
 
-  module _ (x y : Placed) {b : Bool} (o : b ≡ (alone kind y && follows x y && unparted x y)) where
+  module _ (x y : Placed) {b : Bool} (o : b ≡ (alone kind y && follows x y && unparted x y && turned kind x y)) where
     module _ (i : ℕ) (h : i < n) (e : y ≡ g i) {whole : Bool} (p : passes kind x (drop i (tabulate g n)) ≡ whole) where
       here : (b && passes kind y (drop (i + 1) (tabulate g n))) ≡ whole
       unfolding passes

@@ -4,7 +4,7 @@
 ghost use Rattle.std.specs.Prelude.{◌≡◌, true, ◌&&◌, ◌<◌, length, eqb, leb};
 ghost use Rattle.terms.specs.Pieces.{columns};
 ghost use Rattle.folding.specs.Placement.{group_of, start_of, end_of, left, placements_in};
-ghost use Rattle.folding.specs.Legal.{legal, same_group, unparted};
+ghost use Rattle.folding.specs.Legal.{legal, same_group, unparted, turned};
 ghost use Rattle.folding.specs.Asks.{placed_at, placed_in, Listed};
 ghost use Rattle.legality.specs.Inner.{alone, follows};
 
@@ -73,12 +73,20 @@ fn stays_with(x: Placed, y: Placed) -> bool
     x.component.mark != 1 || q.group == p.group && q.side == p.side
 }
 
+// Whether no nested group ends with x on the left, where y opens the next.
+fn ends_turned(kind: Kind, x: Placed, y: Placed) -> bool
+    ensures { result ≡ turned kind x y }
+{
+    let p = x.placement;
+    kind == Kind::Apart || y.placement.group == p.group || p.side != 0
+}
+
 // Whether y may be the component behind x.
 fn may_stand_next(kind: Kind, x: Placed, y: Placed) -> bool
     ensures { result
-        ≡ (alone kind y && follows x y && unparted x y) }
+        ≡ (alone kind y && follows x y && unparted x y && turned kind x y) }
 {
-    stands_alone(kind, y) && may_follow(x, y) && stays_with(x, y)
+    stands_alone(kind, y) && may_follow(x, y) && stays_with(x, y) && ends_turned(kind, x, y)
 }
 
 // Whether the placements are legal, in one pass: `all` over pairs would read each placement twice.

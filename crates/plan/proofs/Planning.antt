@@ -171,7 +171,7 @@ module _ {kind : Kind} {known limit i : ℕ} {hs ws gs widths heights ends : Lis
 
     same_layout : get_or (layouts kind limit 0 (components_in hs ws gs)) i unmet ≡ get_or (layouts kind known 0 (components_in hs ws gs)) i unmet
     same_layout =
-        (layouts_fall (groups_laws kind (λ last. may_stand kind) (λ last. suits kind)) known limit (omega arith) (omega (arith, a.limit_most)) 0 (components_in hs ws gs) (good_lists a.lists) i
+        (layouts_fall (groups_laws kind (may_stand kind) (suits kind)) known limit (omega arith) (omega (arith, a.limit_most)) 0 (components_in hs ws gs) (good_lists a.lists) i
         ).stays (omega (arith, entry.height_is))
 
     plan_stays : PlannedFrom kind limit (components_in hs ws gs) widths heights ends i

@@ -3,6 +3,8 @@ use Prim.Native.Nat.{ℕ, zero, suc, ◌+◌, ◌-◌, ◌≤◌, ◌<◌, min}
 use mathlib.Core.Path.{◌≡◌, refl, sym, ap, ◌∙◌, subst}
 use mathlib.Core.Logic.{◌⊎◌, inl, inr}
 use mathlib.Core.List.{List, ◌++◌}
+use mathlib.Core.Bool.{Bool}
+use lib.Dec.{eqb}
 use native.Mathlib.Nat.{eq-or-lt_of_le}
 use native.Mathlib.Omega.{arith}
 use lib.ListN.{length, get_or, take, drop, set, length-drop, length-set}
@@ -29,19 +31,20 @@ module _ (limit g0 : ℕ) (hs ws gs : List ℕ) where
   row_start Apart es row r = tt
   row_start Nested es row r = r.1
 
--- The word of the first j + 1 components in the row of a stack.
-module _ {limit g0 : ℕ} (s : List Piece) (j : ℕ) (h : j < length s) where
-  pub row_word : (es row : List ℕ) → columns s (RowAsks Nested limit g0) es row → columns (take (j + 1) s) (WordAsks limit g0) es (get_or row j 0)
-  row_word es row r = (r.0, simp take-map at (r.1.holds j (omega (arith, heights_length s))))
+-- The word of the first j + 1 components in the row of a stack, of which it is told whether they stand last.
+module _ {limit g0 : ℕ} (s : List Piece) (j : ℕ) (h : j < length s) {last : Bool} (told : last ≡ eqb (j + 1) (length s)) where
+  pub row_word : (es row : List ℕ) → columns s (RowAsks Nested limit g0) es row → columns (take (j + 1) s) (WordAsks last limit g0) es (get_or row j 0)
+  row_word es row r = rw told (r.0, simp take-map at (rw (heights_length s) at (r.1.holds j (omega (arith, heights_length s)))))
 
-  word_back : {word : ℕ} → columns (take (j + 1) s) (WordHolds limit g0) word → WordHolds limit g0 (take (j + 1) (heights_in s)) (take (j + 1) (widths_in s)) (take (j + 1) (seams_in s)) word
-  word_back w = simp take-map w
+  word_back : {word : ℕ} → columns (take (j + 1) s) (WordHolds last limit g0) word
+      → WordHolds (eqb (j + 1) (length (heights_in s))) limit g0 (take (j + 1) (heights_in s)) (take (j + 1) (widths_in s)) (take (j + 1) (seams_in s)) word
+  word_back w = rw (heights_length s, ← told) (simp take-map w)
 
-  pub row_more : {row : List ℕ} (word : ℕ) → columns s (RowDone Nested limit g0) row → columns (take (j + 1) s) (WordHolds limit g0) word → columns s (RowDone Nested limit g0) (set row j word)
+  pub row_more : {row : List ℕ} (word : ℕ) → columns s (RowDone Nested limit g0) row → columns (take (j + 1) s) (WordHolds last limit g0) word → columns s (RowDone Nested limit g0) (set row j word)
   row_more {row} word r w = record { long = length-set row j word ∙ r.long; holds = λ k u. go k u (order j k) (order k j) }
     where
       Word : ℕ → Type 0
-      Word k = WordHolds limit g0 (take (k + 1) (heights_in s)) (take (k + 1) (widths_in s)) (take (k + 1) (seams_in s)) (get_or (set row j word) k 0)
+      Word k = WordHolds (eqb (k + 1) (length (heights_in s))) limit g0 (take (k + 1) (heights_in s)) (take (k + 1) (widths_in s)) (take (k + 1) (seams_in s)) (get_or (set row j word) k 0)
 
       same : Word j
       same = rw (get_or-set_same row j word 0 (omega (arith, r.long, heights_length s))) (word_back w)

@@ -3,9 +3,11 @@ use Prim.Native.Nat.{ℕ, suc, ◌+◌, ◌≤◌, ◌<◌, max}
 use mathlib.Core.Path.{◌≡◌, refl, sym, ap, subst, ◌∙◌}
 use mathlib.Core.Logic.{◌⊎◌, inl, inr}
 use mathlib.Core.List.{List}
+use mathlib.Core.Bool.{Bool}
 use native.Mathlib.Numerals.{add-one}
 use native.Mathlib.Omega.{arith}
-use lib.ListN.{length, get_or, take}
+use lib.Dec.{eqb}
+use lib.ListN.{length, get_or, take, drop}
 use lib.Seq.{length-take-le}
 use Rattle.std.specs.Prelude.{Option, Some, None}
 use Rattle.std.specs.Option.{unwrap_or}
@@ -30,14 +32,17 @@ use Rattle.plan.specs.declared.Left.{Left}
 use Rattle.plan.specs.declared.Sizes.{Sizes}
 use Rattle.plan.specs.Asks.{GroupAsks, tried, most_rows, SizesAsk, SizesOf, FirstAsks, Under, best_to}
 use Rattle.plan.proofs.Columns.{stack_length, stack_take, stack_lists_take, entry_at, width_at, height_at}
+use Rattle.layout.proofs.Columns.{end_drop}
 use Rattle.plan.proofs.Sizing.{no_piece, SizesTo, sizes_start, sizes_more}
+use Rattle.model.specs.Groups.{is_end}
 use Rattle.model.specs.Layout.{NoWorse, candidate_for}
 use Rattle.model.proofs.Choice.{no_wider, no_wider_nor_higher, Fair, fair_choice, Below, below_choice}
 use Rattle.model.proofs.Scan.{layouts_fair}
 use Rattle.plan.proofs.Bests.{best_none, best_more, best_stop, best_of_all, best_bound}
 
-same_rest : (kind : Kind) (limit g0 : ℕ) (cs : List Component) (p q : Layout) (k : ℕ) → p.width ≡ q.width → p.height ≡ q.height → candidate kind limit g0 cs p k ≡ candidate kind limit g0 cs q k
-same_rest kind limit g0 cs p q k e f = rw (e, f)
+same_rest : (kind : Kind) (limit g0 : ℕ) (last last' : Bool) (cs : List Component) (p q : Layout) (k : ℕ) → last ≡ last' → p.width ≡ q.width → p.height ≡ q.height
+    → candidate kind limit g0 last cs p k ≡ candidate kind limit g0 last' cs q k
+same_rest kind limit g0 last last' cs p q k l e f = rw (l, e, f)
 
 -- A step of the search, in names.
 below_step : (bound : ℕ) (c c' s s' b r : Layout) → r ≡ choice c b → c ≡ c' → s' ≡ choice c' s → Below bound s b → Below bound s' r
@@ -117,12 +122,15 @@ module _ (l : Left) where
       rest_width = omega (arith, width_at p j, a.later.width_is j (omega (arith, long)), no_wider (layouts_fair (λ x. gap x) (candidate_for (groups kind) limit) g0 cs (suc j)));
     }
 
-    candidate_same : candidate kind limit g0 (stack_in (take (j + 1) s)) (layout_in (entry_at p j)) (length (heights_in (take (j + 1) s)))
-        ≡ candidate kind limit g0 (take (suc j) (stack_in s)) (get_or (layouts kind limit g0 (stack_in s)) (suc j) unmet) (suc j)
+    abbrev last : Bool
+    last = eqb (j + 1) (length s)
+
+    candidate_same : candidate kind limit g0 last (stack_in (take (j + 1) s)) (layout_in (entry_at p j)) (length (heights_in (take (j + 1) s)))
+        ≡ candidate kind limit g0 (is_end (drop (suc j) cs)) (take (suc j) (stack_in s)) (get_or (layouts kind limit g0 (stack_in s)) (suc j) unmet) (suc j)
     candidate_same =
         let lk : j < length cs = omega (arith, long) in
         rw (part, heights_length (take (j + 1) s), few, add-one j)
-        (same_rest kind limit g0 (take (suc j) cs) (layout_in (entry_at p j)) (get_or (layouts kind limit g0 cs) (suc j) unmet) (suc j) (width_at p j ∙ a.later.width_is j lk) (height_at p j ∙ a.later.height_is j lk))
+        (same_rest kind limit g0 _ _ (take (suc j) cs) (layout_in (entry_at p j)) (get_or (layouts kind limit g0 cs) (suc j) unmet) (suc j) (rw (← long) (end_drop cs (suc j) (omega arith))) (width_at p j ∙ a.later.width_is j lk) (height_at p j ∙ a.later.height_is j lk))
 
   -- The best layout stays under the bound. Without one the search starts at `none`.
   starts : (bound : Option Slices) → Under kind limit g0 (stack_in s) bound → Starts kind limit g0 (stack_in s) (unwrap_or bound (record { 0 = none })).0
@@ -169,7 +177,7 @@ module _ (l : Left) where
       pub next_asks : columns (take (k + 1) s) (GroupAsks kind limit g0 z') best (entry_at p k)
       next_asks = group_asks k h more.tall_is (omega (arith, more.low, heights_length s, a.lists.few, most_256 kind)) more.widest_is t.fair
 
-      pub scan_more : (r : Entry) → layout_in r ≡ columns (take (k + 1) s) (tried kind limit g0) best (entry_at p k) → Scanned kind limit g0 bound s r z' (k + 1)
+      pub scan_more : (r : Entry) → layout_in r ≡ columns (take (k + 1) s) (tried kind (eqb (k + 1) (length s)) limit g0) best (entry_at p k) → Scanned kind limit g0 bound s r z' (k + 1)
       scan_more r e = record {
         starts = t.starts;
         best_is = rw (add-one k) (below_step bound _ _ _ _ _ (layout_in r) e (candidate_same k h) (best_more kind limit g0 cs k) t.best_is);
@@ -177,17 +185,17 @@ module _ (l : Left) where
         sizes = more;
       }
 
-  -- A layout whose first group ends with the component at `last` bounds the best one.
-  module _ (nested : l.ask.kind ≡ Nested) (last : ℕ) (within : last < length s) where
-    module _ {z : Sizes} (sizes : SizesOf (stack_in (take (last + 1) s)) z) where
-      pub bound_asks : columns (take (last + 1) s) (GroupAsks Nested limit g0 z) (start none) (entry_at p last)
+  -- A layout whose first group ends with the component at `at` bounds the best one.
+  module _ (nested : l.ask.kind ≡ Nested) (at : ℕ) (within : at < length s) where
+    module _ {z : Sizes} (sizes : SizesOf (stack_in (take (at + 1) s)) z) where
+      pub bound_asks : columns (take (at + 1) s) (GroupAsks Nested limit g0 z) (start none) (entry_at p at)
       bound_asks =
-          subst (λ (k : Kind). columns (take (last + 1) s) (GroupAsks k limit g0 z) (start none) (entry_at p last)) nested
-          (group_asks last within (rw (part last within) at sizes.tall_is) (omega (arith, sizes.low)) (rw (part last within) at sizes.widest_is) (inr (refl, omega arith)))
+          subst (λ (k : Kind). columns (take (at + 1) s) (GroupAsks k limit g0 z) (start none) (entry_at p at)) nested
+          (group_asks at within (rw (part at within) at sizes.tall_is) (omega (arith, sizes.low)) (rw (part at within) at sizes.widest_is) (inr (refl, omega arith)))
 
-    module _ (b : Entry) (e : layout_in b ≡ columns (take (last + 1) s) (tried Nested limit g0) (start none) (entry_at p last)) where
-      best_is : layout_in b ≡ columns (take (last + 1) s) (tried kind limit g0) (start none) (entry_at p last)
-      best_is = subst (λ (k : Kind). layout_in b ≡ columns (take (last + 1) s) (tried k limit g0) (start none) (entry_at p last)) (sym nested) e
+    module _ (b : Entry) (e : layout_in b ≡ columns (take (at + 1) s) (tried Nested (eqb (at + 1) (length s)) limit g0) (start none) (entry_at p at)) where
+      best_is : layout_in b ≡ columns (take (at + 1) s) (tried kind (eqb (at + 1) (length s)) limit g0) (start none) (entry_at p at)
+      best_is = subst (λ (k : Kind). layout_in b ≡ columns (take (at + 1) s) (tried k (eqb (at + 1) (length s)) limit g0) (start none) (entry_at p at)) (sym nested) e
 
       pub bound_under : {o : Outline} → outline_in (layout_in b) ≡ Some o → (r : Slices) → r.0 ≡ o.width.0 + 1 → Under kind limit g0 (stack_in s) (Some r)
       bound_under {o} m r f =
@@ -197,4 +205,4 @@ module _ (l : Left) where
           (omega arith, omega (arith, no_wider narrow))
         where
           narrow : NoWorse (layout_of kind limit g0 (stack_in s)) (layout_in b).width (layout_in b).height
-          narrow = no_worse_step (layout_of kind limit g0 (stack_in s)) _ _ unmet (layout_in b) best_is (candidate_same last within) (best_bound kind limit g0 (stack_in s) last (omega (arith, stack_length s)))
+          narrow = no_worse_step (layout_of kind limit g0 (stack_in s)) _ _ unmet (layout_in b) best_is (candidate_same at within) (best_bound kind limit g0 (stack_in s) at (omega (arith, stack_length s)))

@@ -1,6 +1,6 @@
 -- What the functions of this crate ask and promise each other. `PlanAsks`, `PlanDone`, `Plannable` and `best_at` belong to
 -- what other crates call.
-use Rattle.std.specs.Prelude.{ℕ, zero, suc, ◌+◌, ◌*◌, ◌≤◌, ◌<◌, ◌≡◌, ◌⊎◌, max, List, Option, Some, None, true, cond, length, get_or, drop, ltb}
+use Rattle.std.specs.Prelude.{ℕ, zero, suc, ◌+◌, ◌*◌, ◌≤◌, ◌<◌, ◌≡◌, ◌⊎◌, max, List, Option, Some, None, Bool, true, cond, length, get_or, drop, ltb}
 use Rattle.numbers.specs.Table.{cells}
 use Rattle.terms.specs.Numbers.{most_size, most_apart, most_limit, least_work}
 use Rattle.terms.specs.declared.Component.{Component}
@@ -33,9 +33,9 @@ pub record GroupAsks (kind : Kind) (limit g0 : ℕ) (sizes : Sizes) (hs ws gs : 
   pub fair : (best.width.0 < none) ⊎ ((best.width.0 ≡ none) × (best.height.0 ≤ none))
   pub rest_width : rest.width.0 ≤ none
 
--- The best layout once the group is tried in front of the rest.
-abbrev pub tried : Kind → ℕ → ℕ → List ℕ → List ℕ → List ℕ → Entry → Entry → Layout
-tried kind limit g0 hs ws gs best rest = choice (candidate kind limit g0 (components_in hs ws gs) (layout_in rest) (length hs)) (layout_in best)
+-- The best layout once the group, last or not, is tried in front of the rest.
+abbrev pub tried : Kind → Bool → ℕ → ℕ → List ℕ → List ℕ → List ℕ → Entry → Entry → Layout
+tried kind last limit g0 hs ws gs best rest = choice (candidate kind limit g0 last (components_in hs ws gs) (layout_in rest) (length hs)) (layout_in best)
 
 -- No group with more rows than this in its components keeps the limit.
 abbrev pub most_rows : Kind → ℕ → ℕ

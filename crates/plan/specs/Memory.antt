@@ -1,6 +1,6 @@
 -- What is remembered of the groups of a stack from plan to plan: a word for each group, behind the table of one group. Apart
 -- no group is searched, and nothing is remembered.
-use Rattle.std.specs.Prelude.{ℕ, zero, suc, ◌+◌, ◌-◌, ◌≤◌, ◌<◌, ◌≡◌, List, length, get_or, take, drop}
+use Rattle.std.specs.Prelude.{ℕ, zero, suc, ◌+◌, ◌-◌, ◌≤◌, ◌<◌, ◌≡◌, List, Bool, eqb, length, get_or, take, drop}
 use Rattle.std.specs.List.{between}
 use Rattle.numbers.specs.Table.{cells}
 use Rattle.terms.specs.declared.Kind.{Kind}
@@ -11,18 +11,18 @@ use Rattle.group_memory.specs.Memory.{unknown, Holds}
 use Rattle.layout.specs.Plan.{Planned}
 use Rattle.plan.specs.Asks.{gap_before}
 
--- The word of one group holds for the limit.
-abbrev pub WordHolds : ℕ → ℕ → List ℕ → List ℕ → List ℕ → ℕ → Type 0
-WordHolds limit g0 hs ws gs word = Holds g0 hs ws gs limit (widest (components_in hs ws gs)) word
+-- The word of one group, last or not, holds for the limit.
+abbrev pub WordHolds : Bool → ℕ → ℕ → List ℕ → List ℕ → List ℕ → ℕ → Type 0
+WordHolds last limit g0 hs ws gs word = Holds last g0 hs ws gs limit (widest (components_in hs ws gs)) word
 
 -- And there is a table to search it in.
-abbrev pub WordAsks : ℕ → ℕ → List ℕ → List ℕ → List ℕ → List ℕ → ℕ → Type 0
-WordAsks limit g0 hs ws gs es word = (cells ≤ length es) × WordHolds limit g0 hs ws gs word
+abbrev pub WordAsks : Bool → ℕ → ℕ → List ℕ → List ℕ → List ℕ → List ℕ → ℕ → Type 0
+WordAsks last limit g0 hs ws gs es word = (cells ≤ length es) × WordHolds last limit g0 hs ws gs word
 
--- A row has the words of the groups with the same first component, from the shortest group to the longest.
+-- A row has the words of the groups with the same first component, from the shortest group to the longest, which stands last.
 pub record RowHolds (limit g0 : ℕ) (hs ws gs row : List ℕ) : Type 0 where
   pub long : length row ≡ length hs
-  pub holds : (j : ℕ) → j < length hs → WordHolds limit g0 (take (j + 1) hs) (take (j + 1) ws) (take (j + 1) gs) (get_or row j 0)
+  pub holds : (j : ℕ) → j < length hs → WordHolds (eqb (j + 1) (length hs)) limit g0 (take (j + 1) hs) (take (j + 1) ws) (take (j + 1) gs) (get_or row j 0)
 
 abbrev pub RowDone : Kind → ℕ → ℕ → List ℕ → List ℕ → List ℕ → List ℕ → Type 0
 RowDone Apart limit g0 hs ws gs row = Unit {0}

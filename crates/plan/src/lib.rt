@@ -1,7 +1,7 @@
 // The best layouts of a stack for a height, from its last component to its first.
 #![tactic(auto)]
 
-ghost use Rattle.std.specs.Prelude.{true, ◌≡◌, ◌+◌, ◌-◌, ◌*◌, ◌≤◌, ◌<◌, ◌^◌, max, length, get_or, take, drop};
+ghost use Rattle.std.specs.Prelude.{true, ◌≡◌, ◌+◌, ◌-◌, ◌*◌, ◌≤◌, ◌<◌, ◌^◌, max, length, get_or, take, drop, eqb, Bool};
 ghost use Rattle.std.specs.Option.{unwrap_or};
 ghost use Rattle.terms.specs.Numbers.{most_size, most_limit};
 ghost use Rattle.terms.specs.declared.Kind.TheVariants.{Apart, Nested};
@@ -16,6 +16,7 @@ ghost use Rattle.plan.specs.Memory.{WordAsks, WordHolds, RowAsks, RowDone, RowGi
 
 use folding::Outline;
 use group::NONE;
+use group_height::stands_last;
 use group_memory::NOTHING;
 use group_search::Sought;
 use layout::Entry;
@@ -122,7 +123,8 @@ pub fn sizes_of(stack: &[Piece]) -> Sizes
 fn try_flat(ask: Asked, sizes: Sizes, stack: &[Piece], best: Entry, rest: &Entry) -> Option<Entry>
     requires group_asks { columns stack.now (GroupAsks Apart ask.limit.0 ask.before.0 sizes) best rest.now }
     requires free { unbarred (stack_in stack.now) ≡ true }
-    ensures { layout_in (unwrap_or result best) ≡ columns stack.now (tried Apart ask.limit.0 ask.before.0) best rest.now }
+    ensures { (last : Bool) → layout_in (unwrap_or result best)
+        ≡ columns stack.now (tried Apart last ask.limit.0 ask.before.0) best rest.now }
 {
     if too_wide(best, rest).0 <= rest.width.0 + sizes.widest.0 {
         return None;
@@ -151,10 +153,11 @@ fn too_wide(best: Entry, rest: &Entry) -> Slices
     best.width
 }
 
-// A group with the fold that makes it narrowest in front of the rest. A group that is too wide to improve the best layout
-// need not be searched; in front of a rest of NONE every group is.
+// A group with the fold that makes it narrowest in front of the rest; the last one may have none. A group that is too wide to
+// improve the best layout need not be searched; in front of a rest of NONE every group is.
 fn try_folds(
     ask: Asked,
+    last: bool,
     sizes: Sizes,
     stack: &[Piece],
     best: Entry,
@@ -163,10 +166,10 @@ fn try_folds(
     word: &mut u32,
 ) -> Option<Entry>
     requires group_asks { columns stack.now (GroupAsks Nested ask.limit.0 ask.before.0 sizes) best rest.now }
-    requires word_asks { columns stack.now (WordAsks ask.limit.0 ask.before.0) table.old word.old }
+    requires word_asks { columns stack.now (WordAsks last ask.limit.0 ask.before.0) table.old word.old }
     requires free { unbarred (stack_in stack.now) ≡ true }
-    ensures result_value { layout_in (unwrap_or result best) ≡ columns stack.now (tried Nested ask.limit.0 ask.before.0) best rest.now }
-    ensures word_holds { columns stack.now (WordHolds ask.limit.0 ask.before.0) word.new }
+    ensures result_value { layout_in (unwrap_or result best) ≡ columns stack.now (tried Nested last ask.limit.0 ask.before.0) best rest.now }
+    ensures word_holds { columns stack.now (WordHolds last ask.limit.0 ask.before.0) word.new }
 {
     let bound = too_wide(best, rest);
     if bound.0 <= rest.width.0 + sizes.widest.0 {
@@ -175,6 +178,7 @@ fn try_folds(
     let cap = Slices((2 * sizes.widest.0).min(bound.0 - 1 - rest.width.0));
     let sought = Sought {
         before: ask.before,
+        last,
         flat: sizes.flat_height(ask.before, stack),
         limit: ask.limit,
         widest: sizes.widest,
@@ -198,43 +202,45 @@ fn try_group(
     requires group_asks { columns (take (i + 1) stack.now) (GroupAsks ask.kind ask.limit.0 ask.before.0 sizes) best rest.now }
     requires row_asks { columns stack.now (RowAsks ask.kind ask.limit.0 ask.before.0) table.old row.old }
     ensures result_value { layout_in (unwrap_or result best)
-        ≡ columns (take (i + 1) stack.now) (tried ask.kind ask.limit.0 ask.before.0) best rest.now }
+        ≡ columns (take (i + 1) stack.now) (tried ask.kind (eqb (i + 1) (length stack.now)) ask.limit.0 ask.before.0) best rest.now }
     ensures row_done { columns stack.now (RowDone ask.kind ask.limit.0 ask.before.0) row.new }
 {
     if barred(stack, i) {
         return None;
     }
     let group = &stack[..i + 1];
+    let last = stands_last(stack, i + 1);
     match ask.kind {
         Kind::Apart => try_flat(ask, sizes, group, best, rest),
-        Kind::Nested => try_folds(ask, sizes, group, best, rest, table, &mut row[i]),
+        Kind::Nested => try_folds(ask, last, sizes, group, best, rest, table, &mut row[i]),
     }
 }
 
 impl Left<'_> {
     ghost use Rattle.plan.specs.Left.{with_columns, with_components};
 
-    // A width that the best nested layout stays under: one more than that whose first group ends with the component at `last`,
+    // A width that the best nested layout stays under: one more than that whose first group ends with the component at `end`,
     // if there is such a layout.
-    fn bound_by(&self, last: usize, table: &mut [u32], row: &mut [u32]) -> Option<Slices>
+    fn bound_by(&self, end: usize, table: &mut [u32], row: &mut [u32]) -> Option<Slices>
         requires nested { self.now.ask.kind ≡ Nested }
         requires row_asks { with_columns self.now RowAsks table.old row.old }
         ensures under { with_components self.now Under result }
         ensures row_done { with_columns self.now RowDone row.new }
     {
-        if self.stack.len() <= last || barred(self.stack, last) {
+        if self.stack.len() <= end || barred(self.stack, end) {
             return None;
         }
-        let group = &self.stack[..last + 1];
+        let group = &self.stack[..end + 1];
         let sizes = sizes_of(group);
         let b = try_folds(
             self.ask,
+            stands_last(self.stack, end + 1),
             sizes,
             group,
             Entry::UNMET,
-            &self.later[last],
+            &self.later[end],
             table,
-            &mut row[last],
+            &mut row[end],
         )?;
         let o = b.outline()?;
         Some(Slices(o.width.0 + 1))
@@ -242,14 +248,14 @@ impl Left<'_> {
 
     // Apart no group is searched, so a bound would gain nothing. The match stands apart from `bound_by`: in it, the loop over
     // apart groups was compiled together with that over nested ones, and was a seventh slower.
-    fn likely_bound(&self, last: usize, table: &mut [u32], row: &mut [u32]) -> Option<Slices>
+    fn likely_bound(&self, end: usize, table: &mut [u32], row: &mut [u32]) -> Option<Slices>
         requires row_asks { with_columns self.now RowAsks table.old row.old }
         ensures under { with_components self.now Under result }
         ensures row_done { with_columns self.now RowDone row.new }
     {
         match self.ask.kind {
             Kind::Apart => None,
-            Kind::Nested => self.bound_by(last, table, row),
+            Kind::Nested => self.bound_by(end, table, row),
         }
     }
 

@@ -25,10 +25,12 @@ const OTHER: [u8; 7] = *b"STK\x03\0\0\0";
 // One component, whose mark is 1.
 const LAST: [u8; 15] = *b"STK\x02\0\x01\0\x01\0\x01\0\0\0\x01\0";
 
-// The four components one above the other, and with a fold after the second.
+// The four components one above the other, with a fold after the second, and as two groups there without a right side.
 const FLAT: [u32; 12] = [0, 0, 3, 0, 0, 2, 0, 0, 1, 0, 0, 0];
 
 const FOLDED: [u32; 12] = [0, 0, 1, 0, 0, 0, 0, 1, 0, 0, 1, 2];
+
+const PARTED: [u32; 12] = [0, 0, 1, 0, 0, 0, 1, 0, 1, 1, 0, 0];
 
 // A row of cells. At most 7 high they stand in two stacks in one way only, and in four at most 4 high.
 const CELLS: [u16; 6] = [3, 1, 2, 2, 4, 1];
@@ -148,12 +150,14 @@ fn measure_cases(
     Ok(())
 }
 
-// Nested and apart, the nested folding beside the apart one.
+// Nested and apart, the nested folding beside the apart one, and two groups without a right side, which stand apart only.
 fn placement_cases(out: &mut impl Write) -> io::Result<()> {
     let foldings = [
         ("apart", false, FLAT),
         ("nested", true, FOLDED),
         ("folded apart", false, FOLDED),
+        ("parted apart", false, PARTED),
+        ("parted nested", true, PARTED),
     ];
     measure_cases(out, "measure", &E, &foldings)?;
     let second = folds_choose(&E, true, &FLAT, &FOLDED);
@@ -161,7 +165,9 @@ fn placement_cases(out: &mut impl Write) -> io::Result<()> {
     let neither = folds_choose(&E, false, &FLAT, &FOLDED);
     writeln!(out, "choose second {second}")?;
     writeln!(out, "choose first {first}")?;
-    writeln!(out, "choose neither {neither}")
+    writeln!(out, "choose neither {neither}")?;
+    let parted = folds_choose(&E, true, &PARTED, &FOLDED);
+    writeln!(out, "choose parted {parted}")
 }
 
 // A fold, or a next group, behind the second component is barred; one behind the third is not.
@@ -170,7 +176,7 @@ fn barred_cases(out: &mut impl Write) -> io::Result<()> {
     let foldings = [
         ("flat", false, FLAT),
         ("folded", true, FOLDED),
-        ("parted", false, [0, 0, 1, 0, 0, 0, 1, 0, 1, 1, 0, 0]),
+        ("parted", false, PARTED),
         ("later", true, later),
     ];
     measure_cases(out, "barred measure", &BARRED, &foldings)?;

@@ -2,7 +2,7 @@
 use Prim.Native.Nat.{ℕ, ◌+◌, ◌-◌, ◌*◌, ◌≤◌, ◌<◌}
 use mathlib.Core.Path.{◌≡◌, refl, sym, ap, ◌∙◌}
 use mathlib.Core.List.{List, ◌++◌}
-use mathlib.Core.Bool.{true}
+use mathlib.Core.Bool.{Bool, true}
 use native.Mathlib.Omega.{arith}
 use lib.ListN.{length, get_or, take, drop, length-drop, take-append-drop}
 use lib.Seq.{length-take-le, get_or-drop, get_or-append-add}
@@ -12,21 +12,23 @@ use Rattle.terms.proofs.Tabulate.{tabulate_same}
 use Rattle.terms.proofs.Lists.{AllSized}
 use Rattle.folding.specs.declared.Placement.{Placement}
 use Rattle.folding.specs.Placement.{placed_of, placement_at, placements_of}
+use Rattle.model.specs.Groups.{is_end}
 use Rattle.model.specs.Layout.{candidate_for}
 use Rattle.model.proofs.Scan.{layouts-drop, layouts_at}
 use Rattle.model.proofs.First.{rest_for, FirstGroup, first_group}
 use Rattle.group.specs.Rows.{gap}
-use Rattle.group.specs.Group.{none, unbarred, gap_after, may_stand, least_height, least_width, FoldPoint, group_places}
+use Rattle.group.specs.Group.{none, gap_after, may_stand, least_height, least_width, FoldPoint, group_places, SomeWay}
 use Rattle.folding.specs.Placement.{flat_of}
 use Rattle.folding.proofs.Flat.{flat-length}
 use Rattle.group_trace.proofs.Flat.{placements_flat}
 use Rattle.layout.specs.Layout.{Layout, unmet, groups, layouts, layout_of}
 use Rattle.layout.specs.Plan.{PlannedAt, Planned}
-use Rattle.group.proofs.Ways.{suits, met_end}
+use Rattle.group.proofs.Ways.{suits, width_some}
 use Rattle.group.proofs.Lower.{lefts_in}
 use Rattle.group.proofs.Exact.{least_reached, stands_so}
 use Rattle.layout.proofs.Groups.{sized_parts}
-use Rattle.layout.proofs.Folds.{Folds, folds_front}
+use Rattle.layout.proofs.Folds.{Folds}
+use Rattle.layout.proofs.Foldings.{ruled, folds_front}
 use Rattle.trace.specs.Trace.{Met}
 use Rattle.group.proofs.Indices.{take-tabulate}
 use Rattle.layout.proofs.Columns.{tabulate_rest}
@@ -68,38 +70,41 @@ module _ (kind : Kind) (limit g0 : ℕ) (cs : List Component) (widths heights en
     group_long : length (take k cs) ≡ k
     group_long = length-take-le k cs k_within
 
-    group_met : least_width kind g0 (take k cs) limit < none
+    abbrev pub last : Bool
+    last = is_end (drop k cs)
+
+    group_met : least_width kind last g0 (take k cs) limit < none
     group_met = rw k_is at first.group_met
 
-    pub group_free : unbarred (take k cs) ≡ true
-    group_free = met_end kind (take k cs) g0 limit group_met
+    pub group_way : SomeWay (may_stand kind last) (take k cs)
+    group_way = width_some (may_stand kind last) (take k cs) g0 limit group_met
 
     rest_width : get_or widths k 0 ≡ (rest_for (groups kind) limit cs k).width
     rest_width = (m.planned.at k k_within).width_is ∙ ap (λ (l : Layout). l.width) (layouts_at (λ x. gap x) (candidate_for (groups kind) limit) g0 cs k k_some k_within)
 
-    whole_width : get_or widths 0 0 ≡ least_width kind g0 (take k cs) limit + get_or widths k 0
+    whole_width : get_or widths 0 0 ≡ least_width kind last g0 (take k cs) limit + get_or widths k 0
     whole_width = width_is ∙ rw k_is at first.width ∙ rw rest_width
 
     pub no_wider : get_or widths k 0 ≤ get_or widths 0 0
     no_wider = omega (arith, whole_width)
 
-    cap_is : get_or widths 0 0 - get_or widths k 0 ≡ least_width kind g0 (take k cs) limit
+    cap_is : get_or widths 0 0 - get_or widths k 0 ≡ least_width kind last g0 (take k cs) limit
     cap_is = omega (arith, whole_width)
 
     pub rest_met : Met kind limit (gap_after (take k cs)) (drop k cs) (drop k widths) (drop k heights) (drop k ends)
     rest_met = record { planned = planned_drop kind limit g0 cs widths heights ends k k_some k_within m.planned; met = rw k_is at first.rest_met }
 
-    pub joined : (group p : ℕ) (qs : List Placement) → FoldPoint kind g0 (take k cs) (get_or widths 0 0 - get_or widths k 0) p
+    pub joined : (group p : ℕ) (qs : List Placement) → FoldPoint kind last g0 (take k cs) (get_or widths 0 0 - get_or widths k 0) p
         → Folds kind (group + 1) (gap_after (take k cs)) (drop k cs) qs (rest_for (groups kind) limit cs k).width (rest_for (groups kind) limit cs k).height
         → Folds kind group g0 cs (group_places (get_or widths 0 0 - get_or widths k 0) (take k cs) group p ++ qs) (layout_of kind limit g0 cs).width (layout_of kind limit g0 cs).height
     joined group p qs f r =
-        let w = least_width kind g0 (take k cs) limit in
+        let w = least_width kind last g0 (take k cs) limit in
         let few-in : length (take k cs) ≤ 256 = omega (arith, group_long, k_within) in
         let sized-in = (sized_parts (take k cs) (drop k cs) (rw (take-append-drop k cs) s)).0 in
-        let q : FoldPoint kind g0 (take k cs) w p = rw cap_is at f in
-        let g = least_reached (may_stand kind) kind (suits kind) g0 (take k cs) limit few-in sized-in group_met group p q in
-        let may : may_stand kind (take k cs) (lefts_in (placed_of (take k cs) (group_places w (take k cs) group p))) ≡ true = rw (stands_so (may_stand kind) kind (suits kind) g0 (take k cs) limit few-in sized-in group_met group p q) q.allowed in
-        let j = folds_front kind group g0 (take k cs) (group_places w (take k cs) group p) w (least_height kind g0 (take k cs) w) (drop k cs) qs _ _ g may r in
+        let q : FoldPoint kind last g0 (take k cs) w p = rw cap_is at f in
+        let g = least_reached (may_stand kind last) kind (suits kind last) g0 (take k cs) limit few-in sized-in group_met group p q in
+        let may : may_stand kind last (take k cs) (lefts_in (placed_of (take k cs) (group_places w (take k cs) group p))) ≡ true = rw (stands_so (may_stand kind last) kind (suits kind last) g0 (take k cs) limit few-in sized-in group_met group p q) q.allowed in
+        let j = folds_front (ruled kind) group g0 (take k cs) (group_places w (take k cs) group p) w (least_height kind last g0 (take k cs) w) (drop k cs) qs _ _ g may r in
         rw (cap_is, rw k_is at first.width, rw k_is at first.height) (rw (take-append-drop k cs) at j)
 
 -- Placements behind those of a group.

@@ -1,6 +1,6 @@
 -- One step of the trace: the first group in front of the trace of the rest.
 use Prim.Native.Nat.{ℕ, ◌+◌, ◌-◌, ◌*◌, ◌≤◌, ◌<◌}
-use mathlib.Core.Path.{◌≡◌, refl, sym, ap, ◌∙◌}
+use mathlib.Core.Path.{◌≡◌, refl, sym, ap, subst, ◌∙◌}
 use mathlib.Core.List.{List, [], ◌∷◌, ◌++◌}
 use mathlib.Core.Bool.{Bool, true, false}
 use native.Mathlib.Omega.{arith}
@@ -23,20 +23,22 @@ use Rattle.terms.proofs.Parts.{back}
 use Rattle.folding.specs.declared.Placement.{Placement}
 use Rattle.folding.specs.Placement.{placements_of}
 use Rattle.group.specs.Rows.{gap}
-use Rattle.group.specs.Group.{unbarred, FoldPoint, group_places}
+use Rattle.group.specs.Group.{may_stand, FoldPoint, group_places, SomeWay}
 use Rattle.group.specs.Table.{bare}
 use Rattle.folding.specs.Placement.{flat_of}
 use Rattle.group.proofs.Bare.{places_bare}
 use Rattle.folding.proofs.Flat.{flat-length}
 use Rattle.group.proofs.Exact.{places_length}
+use Rattle.model.specs.Groups.{is_end}
 use Rattle.model.specs.Layout.{candidate_for}
 use Rattle.model.proofs.Scan.{layout_empty}
 use Rattle.layout.specs.Layout.{groups, layout_of}
 use Rattle.layout.proofs.Folds.{Folds, folds_none}
+use Rattle.layout.proofs.Obeying.{Obeys}
 use Rattle.trace.specs.Trace.{GroupAsks, GroupPut, Met, TraceAsks, Traced}
 use Rattle.group.proofs.Gaps.{gap_behind_lem}
-use Rattle.layout.proofs.Columns.{components_length, lists_take, lists_drop, components_take, components_drop, sized_lists}
-use Rattle.trace.proofs.First.{end_bounds, group_free, no_wider, rest_met, joined, placements_behind}
+use Rattle.layout.proofs.Columns.{end_drop, components_length, lists_take, lists_drop, components_take, components_drop, sized_lists}
+use Rattle.trace.proofs.First.{end_bounds, group_way, no_wider, rest_met, joined, placements_behind}
 
 -- The part of a list from k on, as it is lent.
 abbrev pub part : {A : Type 0} → ℕ → List A → List A
@@ -44,6 +46,10 @@ part k l = take (length l - k) (drop k l)
 
 pub part_is : {A : Type 0} (k : ℕ) (l : List A) → part k l ≡ drop k l
 part_is k l = take_all (length l - k) (drop k l) (omega (arith, length-drop k l))
+
+-- The first pieces of a list are as many as they are.
+pub first_is : {A : Type 0} (s l : List A) {k : ℕ} → l ≡ take k s → length l ≡ k → l ≡ take (length l) s
+first_is s l q e = rw e q
 
 -- Whether anything is left.
 pub empty : (s : List Piece) {b : Bool} → b ≡ eqb (length s) 0 → b ≡ true → length s ≤ 0
@@ -100,20 +106,30 @@ module _ {kind : Kind} {group g0 : ℕ} (s : List Piece) (plan : List Entry) {ou
       no_wider kind a.limit g0 (components_in hs ws gs) widths a.heights ends some_in few (sized_lists a.lists) a.plan k e,
     )
 
-    free_in : unbarred (take k (components_in hs ws gs)) ≡ true
-    free_in = group_free kind a.limit g0 (components_in hs ws gs) widths a.heights ends some_in few (sized_lists a.lists) a.plan k e
+    -- Whether they stand last, as it is told.
+    end_is : {last : Bool} → last ≡ eqb k (length s) → last ≡ is_end (drop k (components_in hs ws gs))
+    end_is told = told ∙ ap (λ (n : ℕ). eqb k n) (sym (n_is ∙ heights_length s)) ∙ end_drop (components_in hs ws gs) k (omega (arith, k_within, n_is))
 
-    pub put_asks : columns (take k s) (GroupAsks kind g0) work × (3 * length (heights_in (take k s)) ≤ length out)
-    put_asks =
+    way_in : SomeWay (may_stand kind (is_end (drop k (components_in hs ws gs)))) (take k (components_in hs ws gs))
+    way_in = group_way kind a.limit g0 (components_in hs ws gs) widths a.heights ends some_in few (sized_lists a.lists) a.plan k e
+
+    pub put_asks : {last : Bool} {first : List Piece} → last ≡ eqb k (length s) → first ≡ take k s → columns first (GroupAsks kind last g0) work × (3 * length (heights_in first) ≤ length out)
+    put_asks {last} {first} told q =
         let n = length-take-le k hs k_within in
-        let r : GroupAsks kind g0 (take k hs) (take k ws) (take k gs) work = record {
+        let r : GroupAsks kind last g0 (take k hs) (take k ws) (take k gs) work = record {
           lists = lists_take a.lists k k_within;
           some = omega (arith, n, k_some);
-          free = rw (components_take hs ws gs k k_within) free_in;
+          way = rw (components_take hs ws gs k k_within, end_is told) way_in;
           before = a.before;
           work_room = a.work_room;
         } in
-        (simp take-map at r, omega (arith, n, ap length (take-map (λ (p : Piece). p.height) k s), k_within, a.room))
+        let p : columns (take k s) (GroupAsks kind last g0) work × (3 * length (heights_in (take k s)) ≤ length out) =
+        (simp take-map at r, omega (arith, n, ap length (take-map (λ (p : Piece). p.height) k s), k_within, a.room)) in
+        subst (λ (l : List Piece). columns l (GroupAsks kind last g0) work × (3 * length (heights_in l) ≤ length out)) (sym q) p
+
+    pub group_put : {last : Bool} {cap : ℕ} {first : List Piece} {put : List ℕ} → first ≡ take k s → columns first (GroupPut kind last group g0 cap) out put
+        → GroupPut kind last group g0 cap (take k hs) (take k ws) (take k gs) out put
+    group_put {last} {cap} {first} {put} q g = simp take-map (subst (λ (l : List Piece). columns l (GroupPut kind last group g0 cap) out put) q g)
 
     module _ {cap : ℕ} (d : cap ≡ get_or widths 0 0 - get_or widths k 0) where
       -- The rest, behind the gap of the group's last component.
@@ -145,7 +161,7 @@ module _ {kind : Kind} {group g0 : ℕ} (s : List Piece) (plan : List Entry) {ou
             } in
             rw (part_is k s, part_is k plan, part_is (3 * k) put) (simp drop-map at r)
 
-        module _ {put : List ℕ} (g : GroupPut kind group g0 cap (take k hs) (take k ws) (take k gs) out put) where
+        module _ {last : Bool} {put : List ℕ} (told : last ≡ eqb k (length s)) (g : GroupPut kind last group g0 cap (take k hs) (take k ws) (take k gs) out put) where
           group_long : length (components_in (take k hs) (take k ws) (take k gs)) ≡ k
           group_long = components_length (take k hs) (take k ws) (take k gs) ∙ length-take-le k hs k_within
 
@@ -197,7 +213,7 @@ module _ {kind : Kind} {group g0 : ℕ} (s : List Piece) (plan : List Entry) {ou
             whole_folds limit heights m =
                 let cs = components_in hs ws gs in
                 let r = traced_rest.folds limit (drop k heights) (rw (components_drop hs ws gs k k_within) at (met_rest limit heights m)) in
-                let q : FoldPoint kind g0 (take k cs) (get_or widths 0 0 - get_or widths k 0) g.at = rw (components_take hs ws gs k k_within, d) at g.point in
+                let q : FoldPoint kind (is_end (drop k cs)) g0 (take k cs) (get_or widths 0 0 - get_or widths k 0) g.at = rw (components_take hs ws gs k k_within, d, end_is told) at g.point in
                 let j = joined kind limit g0 cs widths heights ends some_in few (sized_lists a.lists) m k e group g.at (placements_of new (length (drop k cs))) q (rw (gap_behind_lem hs ws gs k k_some k_within, ← b) r) in
                 rw (placements_behind ps new (length cs) (omega (arith, ps_long, n_is, k_within)), ps_long, ps_is, d, ← length-drop k cs) j
 
@@ -216,5 +232,5 @@ module _ {kind : Kind} {group g0 : ℕ} (s : List Piece) (plan : List Entry) {ou
 -- Nothing is left.
 pub nothing : {kind : Kind} {group g0 : ℕ} (s : List Piece) {widths ends out : List ℕ} → length s ≤ 0 → Traced kind group g0 (stack_in s) widths ends out out
 unfolding tabulate
-nothing {kind} {group} {g0} [] h = record { folds = λ limit heights m. rw (layout_empty (λ x. gap x) (candidate_for (groups kind) limit) g0) (folds_none kind group g0); beyond = refl; long = refl }
+nothing {kind} {group} {g0} [] h = record { folds = λ limit heights m. rw (layout_empty (λ x. gap x) (candidate_for (groups kind) limit) g0) (folds_none kind (Obeys kind) group g0 (record { unparted = tt; turned = tt })); beyond = refl; long = refl }
 nothing (x ∷ s) h = absurd (omega arith)

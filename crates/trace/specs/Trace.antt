@@ -1,35 +1,35 @@
 -- Tracing back the best layout that a plan holds, of which the trace reads the widths and the ends. Nothing here is part of
 -- a public promise.
-use Rattle.std.specs.Prelude.{ℕ, ◌+◌, ◌*◌, ◌≤◌, ◌<◌, ◌≡◌, List, ◌++◌, true, length, drop}
+use Rattle.std.specs.Prelude.{ℕ, ◌+◌, ◌*◌, ◌≤◌, ◌<◌, ◌≡◌, List, ◌++◌, Bool, length, drop}
 use Rattle.numbers.specs.Table.{cells}
 use Rattle.terms.specs.Numbers.{most_size, most_apart, most_nested}
 use Rattle.terms.specs.declared.Component.{Component}
 use Rattle.terms.specs.declared.Kind.{Kind}
 use Rattle.terms.specs.Seams.{components_in}
 use Rattle.folding.specs.Placement.{placements_of}
-use Rattle.group.specs.Group.{none, unbarred, FoldPoint, group_places}
+use Rattle.group.specs.Group.{none, may_stand, FoldPoint, group_places, SomeWay}
 use Rattle.group.specs.Table.{Filled, bare}
 use Rattle.folding.specs.Placement.{flat_of}
 use Rattle.layout.specs.Layout.{layout_of}
 use Rattle.layout.specs.Plan.{StackLists, Planned}
 use Rattle.layout.proofs.Folds.{Folds}
 
--- One group: its columns and the gap before it. It may end where it ends.
-pub record GroupAsks (kind : Kind) (g0 : ℕ) (hs ws gs work : List ℕ) : Type 0 where
+-- One group, last or not: its columns and the gap before it. It may stand there in some way.
+pub record GroupAsks (kind : Kind) (last : Bool) (g0 : ℕ) (hs ws gs work : List ℕ) : Type 0 where
   pub lists : StackLists kind hs ws gs
   pub some : 0 < length hs
-  pub free : unbarred (components_in hs ws gs) ≡ true
+  pub way : SomeWay (may_stand kind last) (components_in hs ws gs)
   pub before : g0 ≤ most_size
   pub work_room : cells ≤ length work
 
 -- Its fold, and the table where it has one.
-pub record FoldFound (kind : Kind) (g0 cap : ℕ) (hs ws gs work : List ℕ) (p : ℕ) : Type 0 where
-  pub point : FoldPoint kind g0 (components_in hs ws gs) cap p
+pub record FoldFound (kind : Kind) (last : Bool) (g0 cap : ℕ) (hs ws gs work : List ℕ) (p : ℕ) : Type 0 where
+  pub point : FoldPoint kind last g0 (components_in hs ws gs) cap p
   pub table : p < length hs → (length hs ≤ most_nested) × Filled hs ws work cap
 
-pub record GroupPut (kind : Kind) (group g0 cap : ℕ) (hs ws gs old new : List ℕ) : Type 0 where
+pub record GroupPut (kind : Kind) (last : Bool) (group g0 cap : ℕ) (hs ws gs old new : List ℕ) : Type 0 where
   pub at : ℕ
-  pub point : FoldPoint kind g0 (components_in hs ws gs) cap at
+  pub point : FoldPoint kind last g0 (components_in hs ws gs) cap at
   pub holds : new ≡ flat_of (group_places cap (bare hs ws) group at) ++ drop (3 * length hs) old
 
 -- The columns of a plan hold the best layouts for the limit, and that of the whole keeps it.

@@ -8,35 +8,37 @@ ghost use Rattle.group.specs.Table.{Filled};
 ghost use Rattle.layout.specs.Plan.{plan_widths, plan_ends};
 ghost use Rattle.trace.specs.Trace.{GroupAsks, FoldFound, GroupPut, TraceAsks, Traced};
 
+use group_height::{fold_point, stands_last};
 use group_table::Table;
 use layout::Entry;
 use numbers::gap;
 use terms::{Kind, Piece, Rows, Slices};
 
 // Behind how many components the group has its fold: behind all of them where it has none.
-fn fold_at(kind: Kind, g0: Rows, table: Table) -> usize
-    requires group { columns table.stack.now (GroupAsks kind g0.0) table.cells.now }
+fn fold_at(kind: Kind, g0: Rows, last: bool, table: Table) -> usize
+    requires group { columns table.stack.now (GroupAsks kind last g0.0) table.cells.now }
     requires filled { kind ≡ Nested → sizes table.stack.now Filled table.cells.now table.cap.0 }
-    ensures { columns table.entry.stack.now (FoldFound kind g0.0 table.entry.cap.0) table.entry.cells.now result }
+    ensures { columns table.entry.stack.now (FoldFound kind last g0.0 table.entry.cap.0) table.entry.cells.now result }
 {
     match kind {
         Kind::Apart => table.stack.len(),
-        Kind::Nested => group_height::fold_point(g0, table),
+        Kind::Nested => fold_point(g0, last, table),
     }
 }
 
-// Places one group.
+// Places one group, the last or not.
 fn put_group(
     kind: Kind,
     group: u32,
     g0: Rows,
+    last: bool,
     cap: Slices,
     stack: &[Piece],
     out: &mut [u32],
     work: &mut [u32],
 )
-    requires { columns stack.now (GroupAsks kind g0.0) work.old × (3 * length (heights_in stack.now) ≤ length out.old) }
-    ensures { columns stack.now (GroupPut kind group g0.0 cap.0) out.old out.new }
+    requires { columns stack.now (GroupAsks kind last g0.0) work.old × (3 * length (heights_in stack.now) ≤ length out.old) }
+    ensures { columns stack.now (GroupPut kind last group g0.0 cap.0) out.old out.new }
 {
     // Apart no group has a fold, and one may have more components than a table takes.
     if kind == Kind::Nested {
@@ -47,7 +49,7 @@ fn put_group(
         cells: work,
         cap,
     };
-    let left = fold_at(kind, g0, table);
+    let left = fold_at(kind, g0, last, table);
     group_trace::write_group(table, out, group, left);
 }
 
@@ -88,7 +90,8 @@ pub fn trace(
     }
     let first = first_group(stack, plan);
     let k = first.len();
-    put_group(kind, group, g0, cap_of(plan, k), first, out, work);
+    let last = stands_last(stack, k);
+    put_group(kind, group, g0, last, cap_of(plan, k), first, out, work);
     let from = 3 * k;
     trace(
         kind,

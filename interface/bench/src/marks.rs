@@ -3,7 +3,7 @@
 
 use crate::barred::{time_beside, Beside, FIGURES};
 use crate::clock;
-use crate::report::{ratio, told};
+use crate::report::{outlines, ratio, told, TWICE};
 use crate::rng::Rng;
 use crate::row::{longest, median, Row, KINDS};
 use crate::shapes::SHAPES;
@@ -34,8 +34,10 @@ pub fn print(before: &[Row]) {
 }
 
 fn print_unmarked(cells: &[Cell], before: &[Row]) {
-    println!("\nNo fold barred: times, and how many times faster than before, over the stacks that both runs timed\n");
-    head("");
+    println!(
+        "\nNo fold barred: times, and how many times faster than before, over the stacks that both runs timed; {TWICE}\n"
+    );
+    head("stacks | outlines", "---:|---:");
     for [old, new] in cells.iter().filter_map(|cell| cell.unmarked.beside(before)) {
         let figures = [&old, &new].map(figures);
         let change = |at: usize| match (figures[0][at], figures[1][at]) {
@@ -43,7 +45,7 @@ fn print_unmarked(cells: &[Cell], before: &[Row]) {
             (_, now) => format!("{} | –", now.map_or("–".into(), told)),
         };
         let cells = [0, 1, 2, 3, 4, 5].map(change).join(" | ");
-        println!("| {} | {} | {cells} |", named(&new), new.timed.len());
+        println!("| {} | {} | {} | {cells} |", named(&new), new.timed.len(), outlines(&old, &new));
     }
 }
 
@@ -61,7 +63,7 @@ fn print_barred(cells: &[Cell]) {
     println!(
         "\nFolds barred: times, and how many times faster than the same stacks at the same limits without marks\n"
     );
-    head(" barred | outlines |");
+    head("barred | outlines | stacks", "---|---:|---:");
     for cell in cells {
         for (timed, (_, name)) in cell.barred.iter().zip(BARRED) {
             let over = |at: usize| if FIGURES[at] == "worst" { longest } else { median };
@@ -77,11 +79,10 @@ fn print_barred(cells: &[Cell]) {
     }
 }
 
-fn head(more: &str) {
+fn head(more: &str, aligned: &str) {
     let figures = FIGURES.map(|name| format!("{name} | times")).join(" | ");
-    println!("| foldings | components | shape |{more} stacks | {figures} |");
-    let aligned = if more.is_empty() { "" } else { "---|---:|" };
-    println!("|---|---:|---|{aligned}---:|{}", "---:|".repeat(2 * FIGURES.len()));
+    println!("| foldings | components | shape | {more} | {figures} |");
+    println!("|---|---:|---|{aligned}|{}", "---:|".repeat(2 * FIGURES.len()));
 }
 
 fn named(row: &Row) -> String {

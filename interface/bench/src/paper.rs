@@ -1,6 +1,7 @@
 //! Document 001's own method, with document 01's corrections: equations (4) and (5), Theorem 2 and section 5.1. Every least
 //! width of a group is found by halving over the sorted sums of widths, and nothing is bounded by the best so far. Groups
-//! that would end or fold where that is barred are left out.
+//! that would end or fold where that is barred are left out, and so are nested ones without a fold that are not the last
+//! (ticket 5).
 //! It gives outlines only and writes no placements, which is less work than the library's.
 
 use stack_folds::{Component, Outline, Rows, Slices};
@@ -89,6 +90,9 @@ impl Paper {
 
     /// S: the least width of the group that keeps the height, and its height there.
     fn least_width(&mut self, first: usize, last: usize, limit: u32) -> Option<(u32, u32)> {
+        if !self.may_be_flat(last) && self.folds(first, last).next().is_none() {
+            return None;
+        }
         let (mut low, mut high) = (0, self.sums.len());
         let mut found = None;
         while low < high {
@@ -109,13 +113,23 @@ impl Paper {
         }
         let before = if first == 0 { 0 } else { self.gaps[first - 1] };
         let after = self.gaps[last];
-        let unfolded = self.total(first, last + 1) + before + after;
+        let unfolded = self.may_be_flat(last).then(|| self.total(first, last + 1) + before + after);
         if !self.nested {
-            return Some(unfolded);
+            return unfolded;
         }
         self.fill(first, last, width);
         let folded = |k: usize| self.least[self.cell(first, last, k, k + 1)] + before.max(after) + self.gaps[k];
-        Some((first..last).filter(|&k| !self.barred[k]).map(folded).fold(unfolded, u32::min))
+        self.folds(first, last).map(folded).chain(unfolded).min()
+    }
+
+    /// Whether a group that ends there may have no fold: nested only the last one.
+    fn may_be_flat(&self, last: usize) -> bool {
+        !self.nested || last + 1 == self.heights.len()
+    }
+
+    /// The components of a group that it may fold after.
+    fn folds(&self, first: usize, last: usize) -> impl Iterator<Item = usize> + '_ {
+        (first..last).filter(|&k| !self.barred[k])
     }
 
     /// The place of B for the components up to `left`, from the group's first, and from `right` to its last. None on the

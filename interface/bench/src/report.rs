@@ -49,26 +49,50 @@ pub fn print_areas(rows: &[Row]) {
     }
 }
 
-/// Old and new side by side. Document 001's method is the same in both runs, so its times tell the two runs' speed.
+/// What a row with two numbers of outlines says.
+pub const TWICE: &str = "outlines before → now where tables are others";
+
+/// Old and new side by side. Where tables stayed, document 001's method did the same in both runs, so its times tell the
+/// two runs' speed. Where they did not, the folds had other limits too.
 pub fn print_change(rows: &[Row], before: &[Row]) {
     let kind = rows[0].kind;
     let pairs: Vec<[Row; 2]> = rows.iter().filter_map(|row| row.beside(before)).collect();
-    let of_both = |[old, new]: &[Row; 2]| [0, 1, 2].map(|call| old.paper(call) / new.paper(call));
-    println!("\nFoldings {kind}, before → now and how many times faster, over the stacks that both runs timed\n");
+    println!(
+        "\nFoldings {kind}, before → now and how many times faster, over the stacks that both runs timed; {TWICE}\n"
+    );
     let calls = CALLS.map(|call| format!("{call} | times | worst | times")).join(" | ");
-    println!("| components | shape | stacks | {calls} |");
-    println!("|---:|---|---:|{}", "---:|".repeat(4 * CALLS.len()));
+    println!("| components | shape | stacks | outlines | {calls} |");
+    println!("|---:|---|---:|---:|{}", "---:|".repeat(4 * CALLS.len()));
     for [old, new] in &pairs {
         let change = |of: fn(&Row, usize) -> f64, call: usize| {
             let (old, new) = (of(old, call), of(new, call));
             format!("{} → {} | {}", told(old), told(new), ratio(old / new))
         };
         let cells = (0..CALLS.len()).flat_map(|call| [Row::library, Row::worst].map(|of| change(of, call)));
-        let cells = cells.collect::<Vec<String>>().join(" | ");
-        println!("| {} | {} | {} | {cells} |", new.count, new.shape.name(), new.timed.len());
+        let (outlines, cells) = (outlines(old, new), cells.collect::<Vec<String>>().join(" | "));
+        println!("| {} | {} | {} | {outlines} | {cells} |", new.count, new.shape.name(), new.timed.len());
     }
-    let speed = median(pairs.iter().flat_map(of_both).collect());
-    println!("\nThe times of document 001's method before are {speed:.2} of those now, in the median over this table.");
+    print_speed(&pairs);
+}
+
+fn print_speed(pairs: &[[Row; 2]]) {
+    let alike = pairs.iter().filter(|[old, new]| new.has_tables_of(old));
+    let of_both = |[old, new]: &[Row; 2]| [0, 1, 2].map(|call| old.paper(call) / new.paper(call));
+    let speeds: Vec<f64> = alike.flat_map(of_both).collect();
+    let rows = speeds.len() / CALLS.len();
+    if rows > 0 {
+        let speed = median(speeds);
+        println!("\nThe times of document 001's method before are {speed:.2} of those now, in the median over the {rows} rows");
+        println!("whose tables have as many outlines as before.");
+    }
+}
+
+/// The median number of outlines of a table, before too where the tables are others.
+pub fn outlines(old: &Row, new: &Row) -> String {
+    match new.has_tables_of(old) {
+        true => format!("{:.0}", new.outlines()),
+        false => format!("{:.0} → {:.0}", old.outlines(), new.outlines()),
+    }
 }
 
 /// Three digits and a unit.

@@ -56,9 +56,16 @@ impl Row {
         let both = own.timed.len().min(other.timed.len());
         own.timed.truncate(both);
         other.timed.truncate(both);
-        let outlines = |row: &Row| row.timed.iter().map(|timed| timed.outlines).collect::<Vec<_>>();
-        assert_eq!(outlines(&own), outlines(&other), "the two runs timed other stacks");
+        // Between two runs the legal foldings may have become others, as nested ones did with ticket 5. Apart tables stayed,
+        // and the stacks of both kinds are drawn alike.
+        assert!(own.kind == KINDS[0] || own.has_tables_of(&other), "the two runs timed other stacks");
         Some([other, own])
+    }
+
+    /// Whether the tables of both rows' stacks have as many outlines.
+    pub fn has_tables_of(&self, other: &Row) -> bool {
+        let outlines = |row: &Row| row.timed.iter().map(|timed| timed.outlines).collect::<Vec<_>>();
+        outlines(self) == outlines(other)
     }
 }
 

@@ -197,15 +197,15 @@ fn choose(caller: &mut Caller, file: &[u8], nested: bool) -> Compared<()> {
 }
 
 /// A folding for the file's stack, or for some other where the file is refused, with up to two damages. Some do not ask
-/// for the marks, and so part barred neighbours at a group's end or at a fold.
+/// for the marks, and so part barred neighbours at a group's end or at a fold, and some have the sides of another kind.
 fn damaged_folding(rng: &mut Rng, file: &[u8], nested: bool) -> Vec<u32> {
     let other = [Component { height: 1, width: 1, gap: 0, mark: 0 }; 3];
     let mut stack = rules::check(file, nested).unwrap_or(other.to_vec());
     if rng.one_in(4) {
         stack.iter_mut().for_each(|c| c.mark = 0);
     }
-    let both_sides = nested || rng.one_in(8);
-    let mut folding = random_folding(rng, &stack, both_sides, 6, 0);
+    let sides = if rng.one_in(4) { rng.pick(&Sides::ALL) } else { Sides::of(nested) };
+    let mut folding = random_folding(rng, &stack, sides, 6, 0);
     for _ in 0..rng.below(3) {
         damage_folding(rng, &mut folding);
     }
@@ -235,29 +235,72 @@ fn damage_folding(rng: &mut Rng, folding: &mut Vec<u32>) {
     }
 }
 
-/// A legal folding of the kind, with empty rows here and there. Its groups have up to `most` components, or more where
-/// marks keep those together, and begin up to `lift` rows above row 0.
-pub fn random_folding(rng: &mut Rng, stack: &[Component], nested: bool, most: usize, lift: u32) -> Vec<u32> {
+/// Which groups of a folding have a right side.
+#[derive(Clone, Copy, Debug, PartialEq, Eq)]
+pub enum Sides {
+    /// None: apart.
+    Left,
+    /// All but the last, which may have one: nested, by ticket 5.
+    Turned,
+    /// Some: nested, by document 01 alone.
+    Any,
+}
+
+impl Sides {
+    const ALL: [Sides; 3] = [Sides::Left, Sides::Turned, Sides::Any];
+
+    /// The sides of the legal foldings of a kind.
+    pub fn of(nested: bool) -> Sides {
+        match nested {
+            true => Sides::Turned,
+            false => Sides::Left,
+        }
+    }
+
+    fn without_right(self, last: bool) -> bool {
+        self != Sides::Turned || last
+    }
+}
+
+/// A folding with such sides that keeps all other rules, with empty rows here and there. Its groups have up to `most`
+/// components, or more where marks keep those together or leave no fold, and begin up to `lift` rows above row 0.
+pub fn random_folding(rng: &mut Rng, stack: &[Component], sides: Sides, most: usize, lift: u32) -> Vec<u32> {
     let mut folding = vec![0; 3 * stack.len()];
-    let may_part = |at: usize| stack[at - 1].mark == 0;
     let (mut first, mut group) = (0, 0);
     while first < stack.len() {
-        let end = first + 1 + rng.below((stack.len() - first).min(most));
-        let end = (end..).find(|&at| may_part(at)).unwrap();
-        let right = if nested { first + 1 + rng.below(end - first) } else { end };
-        let right = (right..).find(|&at| may_part(at)).unwrap();
+        let (right, end) = random_group(rng, stack, sides, first, most);
         let lowest = rng.within(0, lift);
-        let mut side = |components: &mut dyn Iterator<Item = usize>, side: u32| {
-            let mut row = lowest;
-            for i in components {
-                row += if rng.one_in(4) { rng.within(1, 2) } else { 0 };
-                folding[3 * i..3 * i + 3].copy_from_slice(&[group, side, row]);
-                row += stack[i].height;
-            }
-        };
-        side(&mut (first..right).rev(), 0);
-        side(&mut (right..end), 1);
+        stand(rng, stack, &mut folding, [group, 0, lowest], (first..right).rev());
+        stand(rng, stack, &mut folding, [group, 1, lowest], right..end);
         (first, group) = (end, group + 1);
     }
     folding
+}
+
+/// Where the right side of a group begins and where the group ends, which is the same in a group without a right side.
+fn random_group(rng: &mut Rng, stack: &[Component], sides: Sides, first: usize, most: usize) -> (usize, usize) {
+    let may_part = |at: usize| stack[at - 1].mark == 0;
+    let may_be_flat = |end: usize| sides.without_right(end == stack.len());
+    let may_end = |end: usize| may_part(end) && (may_be_flat(end) || (first + 1..end).any(may_part));
+    let least = first + 1 + rng.below((stack.len() - first).min(most));
+    let end = (least..).find(|&end| may_end(end)).unwrap();
+    let may_turn = |right: usize| match right == end {
+        true => may_be_flat(end),
+        false => sides != Sides::Left && may_part(right),
+    };
+    let rights: Vec<usize> = (first + 1..=end).filter(|&right| may_turn(right)).collect();
+    (rng.pick(&rights), end)
+}
+
+/// Places one side of a group, its lowest component first, from that row on.
+pub fn stand(
+    rng: &mut Rng, stack: &[Component], folding: &mut [u32], [group, side, lowest]: [u32; 3],
+    components: impl Iterator<Item = usize>,
+) {
+    let mut row = lowest;
+    for at in components {
+        row += if rng.one_in(4) { rng.within(1, 2) } else { 0 };
+        folding[3 * at..3 * at + 3].copy_from_slice(&[group, side, row]);
+        row += stack[at].height;
+    }
 }

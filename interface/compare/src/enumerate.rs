@@ -3,16 +3,18 @@
 //! Start rows go up to 1,024,000 in document 01. Here a component may end at most at the sum of the heights
 //! of its group, plus `spare` rows. Nothing is lost: if a group is higher than that sum, one of its rows below the top is
 //! empty, since its components fill at most as many rows as their heights add to. Taking that row out, so that all above it
-//! moves down by one, keeps the order in both sides, changes no other row's sum and lowers T by one. So each folding beyond
-//! the bound is equalled or beaten by one within it, in area too. With some spare rows the enumeration tries that argument
-//! itself.
+//! moves down by one, keeps groups, sides and the order in both sides, changes no other row's sum and lowers T by one. So
+//! each folding beyond the bound is equalled or beaten by one within it, in area too. With some spare rows the enumeration
+//! tries that argument itself.
 //!
-//! Marks leave nothing out here: foldings that part barred neighbours are tried like all others, and the rules of a legal
-//! folding say which are broken.
+//! Neither marks nor ticket 5 leave anything out here: foldings that part barred neighbours, and nested ones with groups
+//! before the last that have no right side, are tried like all others, and the rules of a legal folding say which are
+//! broken.
 
 use crate::front::{smaller, Front};
-use crate::measure::{outline, Outline};
+use crate::measure::{with_faults, Faults, Outline};
 use crate::stack::{total, Component};
+use std::ops::AddAssign;
 
 struct Search<'a> {
     stack: &'a [Component],
@@ -21,9 +23,37 @@ struct Search<'a> {
     folding: Vec<u32>,
     front: Front,
     smallest: Option<Outline>,
-    foldings: u64,
-    parted: u64,
-    some_parted: Vec<Vec<u32>>,
+    counts: Counts,
+    some_broken: Vec<Vec<u32>>,
+}
+
+/// How many foldings there are with some faults and with no others.
+#[derive(Clone, Copy, Default)]
+pub struct Counts {
+    pub legal: u64,
+    pub parted: u64,
+    pub flat: u64,
+    pub both: u64,
+}
+
+impl Counts {
+    pub fn of(&mut self, faults: Faults) -> &mut u64 {
+        match faults {
+            Faults { parted: false, flat: false } => &mut self.legal,
+            Faults { parted: true, flat: false } => &mut self.parted,
+            Faults { parted: false, flat: true } => &mut self.flat,
+            Faults { parted: true, flat: true } => &mut self.both,
+        }
+    }
+}
+
+impl AddAssign for Counts {
+    fn add_assign(&mut self, other: Counts) {
+        self.legal += other.legal;
+        self.parted += other.parted;
+        self.flat += other.flat;
+        self.both += other.both;
+    }
 }
 
 /// What all foldings of a stack come to.
@@ -31,22 +61,19 @@ pub struct Enumerated {
     pub table: Vec<Outline>,
     /// Of all foldings, beaten ones too: that it is in the table is for the comparison to show.
     pub smallest: Outline,
-    /// How many were measured.
-    pub foldings: u64,
-    /// How many more part barred neighbours and are legal otherwise, and some of them.
-    pub parted: u64,
-    pub some_parted: Vec<Vec<u32>>,
+    pub counts: Counts,
+    /// Some of those that are broken, with each of the faults and with both.
+    pub some_broken: Vec<Vec<u32>>,
 }
 
 pub fn all(stack: &[Component], nested: bool, spare: u32) -> Enumerated {
     let folding = vec![0; 3 * stack.len()];
-    let (front, some_parted) = (Front::default(), Vec::new());
-    let mut search =
-        Search { stack, nested, spare, folding, front, smallest: None, foldings: 0, parted: 0, some_parted };
+    let (front, counts, some_broken) = (Front::default(), Counts::default(), Vec::new());
+    let mut search = Search { stack, nested, spare, folding, front, smallest: None, counts, some_broken };
     search.groups(0, 0);
-    let Search { front, smallest, foldings, parted, some_parted, .. } = search;
+    let Search { front, smallest, counts, some_broken, .. } = search;
     let smallest = smallest.expect("every stack has a folding");
-    Enumerated { table: front.table(), smallest, foldings, parted, some_parted }
+    Enumerated { table: front.table(), smallest, counts, some_broken }
 }
 
 impl Search<'_> {
@@ -64,19 +91,16 @@ impl Search<'_> {
     }
 
     fn measure(&mut self) {
-        let Some(one) = outline(self.stack, self.nested, &self.folding) else { return self.keep_parted() };
-        self.foldings += 1;
-        self.smallest = Some(self.smallest.map_or(one, |best| smaller(best, one)));
-        self.front.add(one);
-    }
-
-    /// Keeps fewer and fewer, so that they come from all over the enumeration and stay few.
-    fn keep_parted(&mut self) {
-        self.parted += 1;
-        if self.parted.is_power_of_two() {
-            let unmarked: Vec<Component> = self.stack.iter().map(|c| Component { mark: 0, ..*c }).collect();
-            assert!(outline(&unmarked, self.nested, &self.folding).is_some(), "only a mark can make a folding broken");
-            self.some_parted.push(self.folding.clone());
+        let measured = with_faults(self.stack, self.nested, &self.folding);
+        let (one, faults) = measured.expect("what is enumerated keeps document 01's rules");
+        let count = self.counts.of(faults);
+        *count += 1;
+        if faults == Faults::NONE {
+            self.smallest = Some(self.smallest.map_or(one, |best| smaller(best, one)));
+            self.front.add(one);
+        } else if count.is_power_of_two() {
+            // Fewer and fewer are kept, so that they come from all over the enumeration and stay few.
+            self.some_broken.push(self.folding.clone());
         }
     }
 

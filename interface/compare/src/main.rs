@@ -14,8 +14,11 @@ mod rules;
 mod shapes;
 mod stack;
 mod stacks;
+mod turned;
 
 use calls::{same, Caller, Compared};
+use damage::Sides;
+use enumerate::Counts;
 use front::smallest;
 use rng::Rng;
 use stack::{random, Component, MARKS, SHAPES};
@@ -56,10 +59,11 @@ fn main() -> ExitCode {
 }
 
 /// Each compares one part and tells what that was.
-const PARTS: [fn(&mut Caller) -> Compared<String>; 15] = [
+const PARTS: [fn(&mut Caller) -> Compared<String>; 16] = [
     known,
     damaged,
     measured,
+    turned::flattened,
     enumerated,
     searched,
     marked,
@@ -91,7 +95,8 @@ fn known(caller: &mut Caller) -> Compared<String> {
     known::stacks(caller)?;
     known::edges(caller)?;
     marks::all(caller)?;
-    Ok("known stacks and edges, and fold marks".into())
+    turned::all(caller)?;
+    Ok("known stacks and edges, fold marks, and groups without a right side".into())
 }
 
 /// Adds to a difference the stack that shows it.
@@ -106,13 +111,9 @@ fn told(stack: &[Component], nested: bool) -> impl FnOnce(String) -> String {
 fn measured(caller: &mut Caller) -> Compared<String> {
     for at in 0..MEASURED {
         let nested = at % 2 == 0;
-        let count = caller.rng.within(1, if nested { 64 } else { 256 }) as usize;
-        let stack = match caller.rng.one_in(4) {
-            true => noisy(caller, count),
-            false => random(&mut caller.rng, count, SHAPES[at / 2 % SHAPES.len()]),
-        };
-        let folding = long_folding(caller, &stack, nested);
-        let other = long_folding(caller, &stack, nested);
+        let stack = long_stack(caller, nested, at);
+        let folding = long_folding(caller, &stack, Sides::of(nested));
+        let other = long_folding(caller, &stack, Sides::of(nested));
         let file = stack::some_file(&mut caller.rng, &stack);
         same("the folding is legal", measure::outline(&stack, nested, &folding).is_some(), true)
             .and_then(|()| caller.measure(&file, nested, &folding))
@@ -123,29 +124,42 @@ fn measured(caller: &mut Caller) -> Compared<String> {
     Ok(format!("{MEASURED} {what}"))
 }
 
-fn long_folding(caller: &mut Caller, stack: &[Component], nested: bool) -> Vec<u32> {
+/// A stack of any length that the kind takes.
+fn long_stack(caller: &mut Caller, nested: bool, at: usize) -> Vec<Component> {
+    let count = caller.rng.within(1, if nested { 64 } else { 256 }) as usize;
+    match caller.rng.one_in(4) {
+        true => noisy(caller, count),
+        false => random(&mut caller.rng, count, SHAPES[at / 2 % SHAPES.len()]),
+    }
+}
+
+fn long_folding(caller: &mut Caller, stack: &[Component], sides: Sides) -> Vec<u32> {
     // A component has at most two empty rows below it.
     let most_lift = measure::HIGHEST.saturating_sub(stack::total(stack) + 2 * stack.len() as u32);
     let lift = if caller.rng.one_in(4) { most_lift } else { 0 };
-    damage::random_folding(&mut caller.rng, stack, nested, stack.len(), lift)
+    damage::random_folding(&mut caller.rng, stack, sides, stack.len(), lift)
 }
 
 fn enumerated(caller: &mut Caller) -> Compared<String> {
-    let (mut foldings, mut parted) = (0, 0);
+    let mut counts = Counts::default();
     for at in 0..ENUMERATED {
         let stack = random(&mut caller.rng, 1 + at % 5, SHAPES[at / 5 % SHAPES.len()]);
         stacks::files(caller, &stack).map_err(told(&stack, false))?;
         for nested in [false, true] {
             let spare = if stack.len() <= 3 { 2 } else { 0 };
             let own = enumerate::all(&stack, nested, spare);
-            (foldings, parted) = (foldings + own.foldings, parted + own.parted);
+            counts += own.counts;
             stacks::against(caller, &stack, nested, &own.table, own.smallest)
-                .and_then(|()| stacks::broken(caller, &stack, nested, &own.some_parted))
+                .and_then(|()| stacks::broken(caller, &stack, nested, &own.some_broken))
                 .map_err(told(&stack, nested))?;
         }
     }
-    let parting = format!("{parted} that part barred neighbours");
-    Ok(format!("{ENUMERATED} stacks of 1 to 5 components, {foldings} foldings enumerated and {parting}"))
+    let Counts { legal, parted, flat, both } = counts;
+    let broken = format!(
+        "{parted} that part barred neighbours, {flat} nested ones with a group before the last that has no right side, \
+         {both} with both faults"
+    );
+    Ok(format!("{ENUMERATED} stacks of 1 to 5 components, {legal} legal foldings enumerated; beside them {broken}"))
 }
 
 fn searched(caller: &mut Caller) -> Compared<String> {

@@ -169,11 +169,12 @@ fn writer(caller: &mut Caller) -> Compared<()> {
 fn foldings(caller: &mut Caller) -> Compared<()> {
     let bytes = file(&e([0, 1, 0, 0]), 2);
     let at_end = [0, 0, 1, 0, 0, 0, 1, 0, 1, 1, 0, 0];
+    let at_turned_end = [0, 0, 0, 0, 1, 0, 1, 0, 0, 1, 1, 0];
     let at_fold = [0, 0, 1, 0, 0, 0, 0, 1, 0, 0, 1, 1];
     let together = [0, 0, 0, 0, 1, 0, 0, 1, 7, 1, 0, 0];
     for (folding, nested, answer) in [
         (at_end, false, Err(10)),
-        (at_end, true, Err(10)),
+        (at_turned_end, true, Err(10)),
         (at_fold, true, Err(10)),
         (together, true, Ok(Outline { width: 7, height: 8 })),
     ] {

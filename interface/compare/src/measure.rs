@@ -1,4 +1,5 @@
-//! Document 01's rules for a legal folding and its outline, group by group and row by row, and ticket 3's rule of marks.
+//! Document 01's rules for a legal folding and its outline, group by group and row by row, and the rules of tickets 3 and
+//! 5 beside them.
 
 use crate::stack::Component;
 
@@ -32,25 +33,43 @@ impl Placed {
     }
 }
 
+/// What breaks a folding that keeps document 01's rules.
+#[derive(Clone, Copy, Debug, Default, PartialEq, Eq)]
+pub struct Faults {
+    /// Ticket 3: a component with mark 1 and its successor differ in group or side.
+    pub parted: bool,
+    /// Ticket 5: a group of a nested folding has no right side and is not the last.
+    pub flat: bool,
+}
+
+impl Faults {
+    pub const NONE: Faults = Faults { parted: false, flat: false };
+}
+
 /// The outline of a folding, or nothing where it is broken. There are three numbers for each component.
 pub fn outline(stack: &[Component], nested: bool, folding: &[u32]) -> Option<Outline> {
+    let (outline, faults) = with_faults(stack, nested, folding)?;
+    (faults == Faults::NONE).then_some(outline)
+}
+
+/// The outline of a folding and what else breaks it, or nothing where it breaks one of document 01's rules.
+pub fn with_faults(stack: &[Component], nested: bool, folding: &[u32]) -> Option<(Outline, Faults)> {
     let place = |(c, p): (&Component, &[u32])| Placed { component: *c, group: p[0], side: p[1], start: p[2] };
     let mut rest: Vec<Placed> = stack.iter().zip(folding.chunks_exact(3)).map(place).collect();
-    if rest.windows(2).any(|two| parted(two[0], two[1])) {
-        return None;
-    }
+    let parted = rest.windows(2).any(|two| parted(two[0], two[1]));
     let mut layout = Outline { width: 0, height: 0 };
-    let (mut number, mut gap_before) = (0, 0);
+    let (mut number, mut gap_before, mut flat) = (0, 0, false);
     while !rest.is_empty() {
         let length = rest.iter().take_while(|p| p.group == number).count();
         let group: Vec<Placed> = rest.drain(..length).collect();
         let (left, right) = sides(&group, nested)?;
         let one = group_outline(left, right, gap_before);
         layout = Outline { width: layout.width + one.width, height: layout.height.max(one.height) };
+        flat |= nested && right.is_empty() && !rest.is_empty();
         gap_before = group[length - 1].component.gap;
         number += 1;
     }
-    Some(layout)
+    Some((layout, Faults { parted, flat }))
 }
 
 /// Where a mark is 1, the component and its successor have the same group and side.

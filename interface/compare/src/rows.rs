@@ -4,7 +4,8 @@
 //! next row takes the next row of the left side, of the right side, or of both. A side may rest only between two
 //! components. Rows that take neither are left out: without them all above moves down. For each state all unbeaten pairs
 //! of rows used and greatest sum are kept, so no width is fixed in advance and nothing is halved. Marks leave out groups
-//! by where they end and fold; how two sides may be filled does not depend on them.
+//! by where they end and fold, and nested a group without a fold is left out unless it ends the stack; how two sides may be
+//! filled depends on neither.
 
 use crate::front::Front;
 use crate::measure::Outline;
@@ -41,22 +42,25 @@ pub fn table(stack: &[Component], nested: bool) -> Vec<Outline> {
     layouts.swap_remove(0).table()
 }
 
-/// The unbeaten outlines of every group, by its first component and its end.
+/// The unbeaten outlines of every group, by its first component and its end; none of a group that no legal folding has.
 fn groups(stack: &[Component], nested: bool) -> Vec<Vec<Front>> {
     let n = stack.len();
     let mut groups = vec![vec![Front::default(); n + 1]; n];
-    for first in 0..n {
-        for end in (first + 1..=n).filter(|&end| may_part(stack, end)) {
-            let group = &stack[first..end];
-            let (before, after) = gaps(stack, first, end);
-            let width = group.iter().map(|c| c.width).max().unwrap();
-            groups[first][end].add(Outline { width, height: total(group) + before + after });
-        }
-    }
+    (1..=n).filter(|&end| may_part(stack, end) && (!nested || end == n)).for_each(|end| flat(stack, end, &mut groups));
     if nested {
         (1..n).filter(|&right| may_part(stack, right)).for_each(|right| folded(stack, right, &mut groups));
     }
     groups
+}
+
+/// Adds the groups without a right side that end before component `end`.
+fn flat(stack: &[Component], end: usize, groups: &mut [Vec<Front>]) {
+    for first in 0..end {
+        let group = &stack[first..end];
+        let (before, after) = gaps(stack, first, end);
+        let width = group.iter().map(|c| c.width).max().unwrap();
+        groups[first][end].add(Outline { width, height: total(group) + before + after });
+    }
 }
 
 /// Whether the components before `at` may have another group or side than those from there on.

@@ -12,6 +12,11 @@ pub struct Component {
     pub mark: u32,
 }
 
+/// A stack of these heights and widths, without gaps and marks.
+pub fn plain(sizes: &[(u32, u32)]) -> Vec<Component> {
+    sizes.iter().map(|&(height, width)| Component { height, width, gap: 0, mark: 0 }).collect()
+}
+
 /// The stack file of that version, whatever its numbers: each is cut to 16 bits. Version 1 leaves out the marks.
 pub fn file(stack: &[Component], version: u16) -> Vec<u8> {
     let mut file = b"STK".to_vec();
@@ -138,7 +143,8 @@ pub fn large(rng: &mut Rng, count: usize, shape: shapes::Shape) -> Vec<Component
 /// A nested stack with about a line for each two numbers up to `coarse` and `fine`: a wide and high component between two
 /// runs that widen toward it. The table's narrowest layouts turn some of the coarse run over and cut off some of the fine
 /// one; one more of the coarse run saves more rows, and takes more slices, than all of the fine one. Two coarse ones are
-/// wider than the wide one, so the coarse run does not fold over itself for nothing.
+/// wider than the wide one, so the coarse run does not fold over itself for nothing. What is cut off stands last and needs
+/// no right side.
 pub fn nested_ladder(rng: &mut Rng, coarse: u32, fine: u32) -> Vec<Component> {
     let step = 3968 / coarse;
     let mut sizes: Vec<[u32; 3]> =

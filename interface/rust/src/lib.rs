@@ -39,7 +39,9 @@ pub struct Component {
     pub barred: bool,
 }
 
-/// Which foldings count: apart ones use the left sides only, nested ones both.
+/// Which foldings count: apart ones use the left sides only, nested ones both. In a nested folding only the last group may
+/// have no right side, since cells may be turned by half a turn and not mirrored. So an apart folding of more than one group
+/// is no nested one.
 #[derive(Clone, Copy, Debug, PartialEq, Eq, Hash)]
 pub enum Kind {
     Apart,
@@ -194,7 +196,8 @@ pub fn write(stack: &[Component]) -> Result<Vec<u8>, Refusal> {
 }
 
 /// The outline of a folding. Placements past the stack's last component are not read. Refusals 1 to 6, 11, 8, 10; a
-/// folding that parts barred neighbours, by group or by side, is broken (10).
+/// folding that parts barred neighbours, by group or by side, is broken (10), and so is a nested one with a group that has
+/// no right side and is not the last.
 pub fn measure(file: &[u8], kind: Kind, placements: &[Placement]) -> Result<Outline, Refusal> {
     outlined(raw::measure(file, nested(kind), &flat(placements)))
 }
@@ -295,6 +298,7 @@ fn narrow(number: u32) -> u16 {
 #[cfg(test)]
 mod tests {
     use super::*;
+    use Side::{Left, Right};
 
     const HEADER: &str = include_str!("../../stack_folds.h");
 
@@ -375,16 +379,36 @@ mod tests {
         let lines = |kind| table(&file, kind).map(|lines| lines.iter().map(|o| (o.width.0, o.height.0)).collect());
         assert_eq!(lines(Kind::Apart), Ok(vec![(3, 4), (6, 3), (7, 2)]));
         assert_eq!(lines(Kind::Nested), Ok(vec![(3, 4), (4, 3), (7, 2)]));
-        let folding = |places: [(u32, Side, u32); 4]| {
-            places.map(|(group, side, start)| Placement { group, side, start: Rows(start) })
-        };
-        use Side::{Left, Right};
-        let at_end = folding([(0, Left, 1), (0, Left, 0), (1, Left, 1), (1, Left, 0)]);
+        let at_end = folding([(0, Left, 0), (0, Right, 0), (1, Left, 0), (1, Right, 0)]);
         let at_fold = folding([(0, Left, 1), (0, Left, 0), (0, Right, 0), (0, Right, 1)]);
         for parted in [at_end, at_fold] {
             assert_eq!(measure(&file, Kind::Nested, &parted), Err(Refusal::BrokenFolding));
             assert!(choose(&file, Kind::Nested, &parted, &parted).is_none());
         }
+        let free = write(&stack([(1, 3), (1, 1), (1, 1), (1, 3)])).unwrap();
+        assert_eq!(measure(&free, Kind::Nested, &at_end), Ok(outline(8, 1)));
+        assert_eq!(measure(&free, Kind::Nested, &at_fold), Ok(outline(6, 2)));
+    }
+
+    fn folding<const N: usize>(places: [(u32, Side, u32); N]) -> [Placement; N] {
+        places.map(|(group, side, start)| Placement { group, side, start: Rows(start) })
+    }
+
+    /// Nested a first group without a right side breaks the folding and a last one does not; apart all are without.
+    #[test]
+    fn only_the_last_nested_group_may_have_no_right_side() {
+        let file = write(&stack([(2, 5), (1, 4), (1, 1), (1, 4), (1, 1)])).unwrap();
+        let first = folding([(0, Left, 0), (1, Left, 1), (1, Left, 0), (1, Right, 0), (1, Right, 1)]);
+        let last = folding([(0, Left, 0), (0, Right, 0), (1, Left, 2), (1, Left, 1), (1, Left, 0)]);
+        let none = folding([(0, Left, 0), (1, Left, 3), (1, Left, 2), (1, Left, 1), (1, Left, 0)]);
+        assert_eq!(measure(&file, Kind::Nested, &first), Err(Refusal::BrokenFolding));
+        assert_eq!(measure(&file, Kind::Nested, &last), Ok(outline(13, 3)));
+        assert_eq!(measure(&file, Kind::Nested, &none), Err(Refusal::BrokenFolding));
+        assert_eq!(measure(&file, Kind::Apart, &none), Ok(outline(9, 4)));
+        assert_eq!(choose(&file, Kind::Nested, &first, &last), None);
+        let two_rows = to_height(&file, Kind::Nested, Rows(2)).unwrap();
+        assert_eq!(two_rows.outline, outline(13, 2));
+        assert_eq!(measure(&file, Kind::Nested, &two_rows.placements), Ok(outline(13, 2)));
     }
 
     const CELLS: [u16; 6] = [3, 1, 2, 2, 4, 1];

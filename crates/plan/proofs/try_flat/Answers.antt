@@ -9,15 +9,15 @@ pub overflow_add-rest : goal.overflow_add-rest
 overflow_add-rest c = omega (arith, wide_4000 c.requires.group_asks, c.requires.group_asks.rest_width)
 
 pub returns-then-too_wide-rest : goal.returns-then-too_wide-rest
-returns-then-too_wide-rest c = too_wide c.requires.group_asks _ c.too_wide.ensures.width_le_result (search rules)
+returns-then-too_wide-rest c = λ last. too_wide c.requires.group_asks last _ c.too_wide.ensures.width_le_result (search rules)
 
 pub returns-then-lt : goal.returns-then-lt
 returns-then-lt c =
     let a = c.requires.group_asks in
-    flat_high a (flat_is a (sym (heights_length c.args.stack.now)) c.flat_height-height.ensures) c.requires.free (search rules)
+    λ last. flat_high last a (flat_is a (sym (heights_length c.args.stack.now)) c.flat_height-height.ensures) c.requires.free (search rules)
 
 pub returns : goal.returns
 returns c =
     let a = c.requires.group_asks in
-    flat_tried a (flat_is a (sym (heights_length c.args.stack.now)) c.flat_height-height.ensures) c.requires.free _ _ (search rules)
+    λ last. flat_tried last a (flat_is a (sym (heights_length c.args.stack.now)) c.flat_height-height.ensures) c.requires.free _ _ (search rules)
     (sym (heights_length c.args.stack.now)) c.improved.ensures

@@ -9,17 +9,17 @@ overflow_add-rest c = omega (arith, wide_4000 c.requires.group_asks, c.requires.
 
 pub returns-then-bound-rest-clause-result_value : goal.returns-then-bound-rest-clause-result_value
 returns-then-bound-rest-clause-result_value c =
-    too_wide c.requires.group_asks _ c.too_wide-bound.ensures.width_le_result c.if-bound-rest.true
+    too_wide c.requires.group_asks c.args.last _ c.too_wide-bound.ensures.width_le_result c.if-bound-rest.true
 
 pub narrowest-requires : goal.narrowest-requires
 narrowest-requires c =
-    narrow_asks c.requires.group_asks c.requires.word_asks _ _ (flat_is c.requires.group_asks (sym (heights_length c.args.stack.now)) c.flat_height.ensures)
+    narrow_asks c.args.last c.requires.group_asks c.requires.word_asks _ _ (flat_is c.requires.group_asks (sym (heights_length c.args.stack.now)) c.flat_height.ensures)
     c.requires.free (omega (arith, c.min.ensures, c.if-bound-rest.false)) (omega (arith, c.min.ensures))
 
 pub improved-requires : goal.improved-requires
 improved-requires c = omega (
   arith,
-  found_low c.requires.group_asks _ c.too_wide-bound.ensures.width_le_result _ c.min.ensures c.narrowest.ensures.narrow (c.in_ok-group.was),
+  found_low c.args.last c.requires.group_asks _ c.too_wide-bound.ensures.width_le_result _ c.min.ensures c.narrowest.ensures.narrow (c.in_ok-group.was),
   c.min.ensures,
   wide_4000 c.requires.group_asks,
   c.requires.group_asks.rest_width,
@@ -27,7 +27,7 @@ improved-requires c = omega (
 
 pub returns-clause-result_value : goal.returns-clause-result_value
 returns-clause-result_value c =
-    folds_tried c.requires.group_asks _ c.too_wide-bound.ensures.width_le_result _ c.min.ensures
+    folds_tried c.args.last c.requires.group_asks _ c.too_wide-bound.ensures.width_le_result _ c.min.ensures
     c.narrowest.ensures.narrow (c.in_ok-group.was) _ _ (omega (
       arith,
       c.if-bound-rest.false,
@@ -39,5 +39,5 @@ returns-clause-result_value c =
 pub returns-in_err-group-clause-result_value : goal.returns-in_err-group-clause-result_value
 returns-in_err-group-clause-result_value c =
     rw c.from_residual.ensures
-    (folds_none c.requires.group_asks _ c.too_wide-bound.ensures.width_le_result _ c.min.ensures
+    (folds_none c.args.last c.requires.group_asks _ c.too_wide-bound.ensures.width_le_result _ c.min.ensures
     c.narrowest.ensures.narrow c.in_err-group.was)

@@ -1,7 +1,6 @@
 use native.Mathlib.Omega.{arith}
 use Rattle.std.proofs.Common.{ap, length, length-drop}
-use Rattle.std.proofs.lemmas.List.{take-map}
-use Rattle.trace.proofs.Tracing.{empty, not_empty, part_is, first_asks, cap_asks, put_asks, again, done, nothing}
+use Rattle.trace.proofs.Tracing.{empty, not_empty, part_is, first_is, first_asks, cap_asks, put_asks, group_put, again, done, nothing}
 use Rattle.trace.proofs.+trace.Goals as goal
 
 pub first_group-first-requires : goal.first_group-first-requires
@@ -12,7 +11,7 @@ cap_of-requires t c = cap_asks c.args.stack.now c.args.plan.now c.requires (not_
 
 pub put_group-requires : goal.put_group-requires
 put_group-requires t c = let f = c.first_group-first.ensures in
-    rw f.value (rw f.count.0 at (put_asks c.args.stack.now c.args.plan.now c.requires (not_empty _ c.is_empty.ensures c.if-is_empty.false) f.count.0))
+    put_asks c.args.stack.now c.args.plan.now c.requires (not_empty _ c.is_empty.ensures c.if-is_empty.false) f.count.0 c.stands_last-last.ensures (first_is c.args.stack.now _ f.value f.count.0)
 
 pub trace-requires : goal.trace-requires
 trace-requires t c = (
@@ -46,7 +45,9 @@ returns t c =
     c.first_group-first.ensures.count.0
     c.cap_of.ensures
     c.gap.ensures.value
-    (simp take-map (rw (c.first_group-first.ensures.value, ← c.first_group-first.ensures.count.0) at c.put_group.ensures))
+    c.stands_last-last.ensures
+    (group_put c.args.stack.now c.args.plan.now c.requires (not_empty _ c.is_empty.ensures c.if-is_empty.false) c.first_group-first.ensures.count.0
+    (first_is c.args.stack.now _ c.first_group-first.ensures.value c.first_group-first.ensures.count.0) c.put_group.ensures)
     c.trace.ensures
 
 pub returns-then-is_empty : goal.returns-then-is_empty
