@@ -250,7 +250,7 @@ fn flat_cases(out: &mut impl Write) -> io::Result<()> {
     let between = [[0, 0, 0], [0, 1, 0], [1, 0, 0], [2, 0, 0]];
     let last = [[0, 0, 0], [0, 1, 0], [1, 0, 4], [1, 0, 0]];
     let only = [[0, 0, 7], [0, 0, 6], [0, 0, 4], [0, 0, 0]];
-    let none = [[0, 0, 0], [0, 1, 0], [1, 0, 0], [1, 1, 0]];
+    let turned = [[0, 0, 0], [0, 1, 0], [1, 0, 0], [1, 1, 0]];
     let foldings = [
         ("two groups apart", Apart, two),
         ("two groups apart as nested", Nested, two),
@@ -259,7 +259,7 @@ fn flat_cases(out: &mut impl Write) -> io::Result<()> {
         ("no right side in a group between", Nested, between),
         ("no right side in the last group", Nested, last),
         ("no right side in the only group", Nested, only),
-        ("a right side in each group", Nested, none),
+        ("a right side in each group", Nested, turned),
     ];
     cases(out, "", &PLAIN, &foldings)
 }
