@@ -24,7 +24,7 @@ use Rattle.group.proofs.Lower.{components_of, lefts_in}
 abbrev pub Flat : List Placed → Type 0
 Flat l = lefts_in l ≡ length (components_of l)
 
--- Of the mates of one on the left none is on the right, and of those of one on the right none is on the left.
+-- Where all are, the second is on the left and so are all from it on; and the other way.
 flat_mates : (x y : Placed) (a : List Placed) → Within x y → left x ≡ true → Flat (x ∷ y ∷ a) → (left y ≡ true) × Flat (y ∷ a)
 unfolding lefts_in
 flat_mates x y a (down p q h) l e = (q, let z : suc (lefts_in (y ∷ a)) ≡ suc (length (components_of (y ∷ a))) = rw l at e in omega (arith, z))
@@ -47,12 +47,12 @@ rest_turned kind x [] [] t = tt
 rest_turned kind x [] (y ∷ b) t = t.1
 rest_turned kind x (y ∷ a) b t = rest_turned kind y a b t.1
 
-parted_left : (x y : Placed) → group_of y ≡ group_of x + 1 → left x ≡ true → turned Nested x y ≡ true → true ≡ false
-parted_left x y e l t = sym (rw (ne_eqb (group_of y) (group_of x) (λ f. omega arith), l) at t)
+no_left_end : (x y : Placed) → group_of y ≡ group_of x + 1 → left x ≡ true → turned Nested x y ≡ true → ⊥
+no_left_end x y e l t = false≢true (rw (ne_eqb (group_of y) (group_of x) (λ f. omega arith), l) at t)
 
 flat_nested : (x : Placed) (a b : List Placed) → left x ≡ true → Run Nested x a → LegalFrom Nested (group_of x + 1) b → Turned Nested (x ∷ (a ++ b)) → Flat (x ∷ a) → is_end b ≡ true
 flat_nested x [] [] l r f t e = refl
-flat_nested x [] (y ∷ b) l r f t e = absurd (true≢false (parted_left x y f.0 l t.0))
+flat_nested x [] (y ∷ b) l r f t e = absurd (no_left_end x y f.0 l t.0)
 flat_nested x (y ∷ a) b l r f t e =
     let m = flat_mates x y a r.1 l e in
     flat_nested y a b m.0 r.3 (rw r.0 f) t.1 m.1
