@@ -1,8 +1,15 @@
 #!/usr/bin/env bash
-# Tests the Rust crate, builds the example in C and in Rust, runs both on stack E, without marks and with one, and on a
-# row of cells, and compares what they print.
+# Sees that the library needs one function from outside, tests the Rust crate, builds the example in C and in Rust, runs both
+# on stack E, without marks and with one, and on a row of cells, and compares what they print.
 set -euo pipefail
 source "$(dirname "${BASH_SOURCE[0]}")/library.sh"
+
+# A caller without a C library brings memset alone.
+needs=$(nm -u "$STACK_FOLDS_LIB/libstack_folds.a" | awk '$1 == "U" { print $2 }' | sort -u)
+if [ "$needs" != memset ]; then
+    echo "the library needs from outside:" $needs >&2
+    exit 1
+fi
 
 mkdir -p target/example
 gcc -std=c11 -O2 -Wall -Wextra -Werror -o target/example/fold_file \

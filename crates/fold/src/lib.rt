@@ -223,7 +223,8 @@ pub fn to_height(
     ensures { ToHeight kind file.now limit.0
         out.old work.old (answer_of result) out.new work.new }
 {
-    let stack = Stack::read(file, kind)?;
+    let mut stack = Stack::new();
+    stack.refill(file, kind)?;
     let pieces = stack.pieces();
     check_lent(pieces.len(), limit.0, out.len(), work.len())?;
     write_low(kind, limit, pieces, out, work)
@@ -239,7 +240,8 @@ pub fn to_width(
     ensures { ToWidth kind file.now limit.0
         out.old work.old (answer_of result) out.new work.new }
 {
-    let stack = Stack::read(file, kind)?;
+    let mut stack = Stack::new();
+    stack.refill(file, kind)?;
     let pieces = stack.pieces();
     check_lent(pieces.len(), limit.0, out.len(), work.len())?;
     write_slim(kind, limit, pieces, out, work)

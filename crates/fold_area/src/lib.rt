@@ -131,7 +131,8 @@ pub fn smallest_area(
     ensures { SmallestOf kind file.now
         out.old work.old (answer_of result) out.new work.new }
 {
-    let stack = Stack::read(file, kind)?;
+    let mut stack = Stack::new();
+    stack.refill(file, kind)?;
     let pieces = stack.pieces();
     fold::check_room(pieces.len(), out.len(), work.len())?;
     write_smallest(kind, pieces, out, work)

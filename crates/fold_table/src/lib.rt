@@ -1,7 +1,7 @@
 // The outline table.
 #![tactic(auto)]
 
-ghost use Rattle.std.specs.Prelude.{◌≡◌, ◌*◌, ◌≤◌, length};
+ghost use Rattle.std.specs.Prelude.{◌≡◌, ◌*◌, ◌≤◌, ◌<◌, ◌++◌, length, take, drop};
 ghost use Rattle.terms.specs.Answer.{answer_of};
 ghost use Rattle.terms.specs.Pieces.{stack_in, columns};
 ghost use Rattle.plan.specs.Asks.{Plannable};
@@ -27,12 +27,18 @@ fn keep_pair(pairs: &mut [u32], n: usize, o: Outline)
 
 // How many outlines are unbeaten: each is the best one below the height of the one before, so widths rise and heights fall.
 // As many as there is room for are left in `pairs`.
-fn gather(kind: Kind, stack: &[Piece], work: &mut [u32], pairs: &mut [u32]) -> usize
-    requires { columns stack.now (Room kind) work.old }
+fn gather(
+    kind: Kind,
+    stack: &[Piece],
+    plan: &mut [Entry],
+    work: &mut [u32],
+    pairs: &mut [u32],
+) -> usize
+    requires room { columns stack.now (Room kind) work.old }
+    requires long { length stack.now < length plan.old }
     ensures { Gathered kind (stack_in stack.now) pairs.old pairs.new result }
 {
-    let mut plan = [Entry::EMPTY; LISTED];
-    let mut search = Search::new(kind, stack, &mut plan, work);
+    let mut search = Search::new(kind, stack, plan, work);
     let mut limit = Rows(MOST_LIMIT);
     let mut n = 0;
     while 0 < limit.0 {
@@ -44,6 +50,17 @@ fn gather(kind: Kind, stack: &[Piece], work: &mut [u32], pairs: &mut [u32]) -> u
         n += 1;
     }
     n
+}
+
+// The first numbers of one list in front of those of another. One by one: the library's own copy calls a function that an archive
+// for C would need from outside.
+fn copy(numbers: &[u32], count: usize, out: &mut [u32])
+    requires { (count ≤ length numbers.now) × (count ≤ length out.old) }
+    ensures { out.new ≡ take count numbers.now ++ drop count out.old }
+{
+    for i in 0..count {
+        out[i] = numbers[i];
+    }
 }
 
 // Nothing is written before the count is known, so that a buffer that is too short is left as it was. The outlines wait in
@@ -58,15 +75,16 @@ fn list_outlines(
     ensures { Tabled kind (stack_in stack.now)
         out.old out.new (answer_of result) }
 {
+    let mut plan = [Entry::EMPTY; LISTED];
     let (front, waiting) = work.split_at_mut(plan::room(kind));
-    let n = gather(kind, stack, front, waiting);
+    let n = gather(kind, stack, &mut plan, front, waiting);
     if out.len() / 2 < n {
         return Err(Refusal::ShortBuffer);
     }
     if 2 * n <= waiting.len() {
-        out[..2 * n].copy_from_slice(&waiting[..2 * n]);
+        copy(waiting, 2 * n, out);
     } else {
-        gather(kind, stack, front, out);
+        gather(kind, stack, &mut plan, front, out);
     }
     Ok(n)
 }
@@ -75,7 +93,8 @@ pub fn table(file: &[u8], kind: Kind, out: &mut [u32], work: &mut [u32]) -> Resu
     ensures { TableOf kind file.now
         out.old work.old (answer_of result) out.new work.new }
 {
-    let stack = Stack::read(file, kind)?;
+    let mut stack = Stack::new();
+    stack.refill(file, kind)?;
     fold::check_work(work.len())?;
     list_outlines(kind, stack.pieces(), out, work)
 }

@@ -32,6 +32,10 @@ use Rattle.group_search.proofs.Halves.{cap_low}
 use Rattle.group_memory.specs.Memory.{word_width, word_height, unknown, never, Holds, MemoryAsks}
 use Rattle.group_memory.specs.Inner.{Small, Recalled, height_in}
 
+-- What holds for a limit holds for a lower one.
+pub holds_lower : {last : Bool} {g0 : ℕ} {hs ws gs : List ℕ} {limit limit' wide word : ℕ} → limit' ≤ limit → Holds last g0 hs ws gs limit wide word → Holds last g0 hs ws gs limit' wide word
+holds_lower l h = record { over = λ c p q. omega (arith, h.over c p q); least = h.least }
+
 module _ {last : Bool} {g0 flat : ℕ} {hs ws gs es : List ℕ} {limit wide low cap : ℕ} (r : LowAsks last g0 flat hs ws gs es limit wide low cap) where
   abbrev cs : List Component
   cs = components_in hs ws gs

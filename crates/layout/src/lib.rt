@@ -14,7 +14,7 @@ use terms::{Rows, Slices};
 pub struct Entry {
     pub width: Slices,
     pub height: Rows,
-    pub end: usize,
+    pub end: u32,
 }
 
 impl Entry {

@@ -28,7 +28,8 @@ fn measure_stack(kind: Kind, stack: &[Piece], flat: &[u32]) -> Result<Outline, R
 pub fn measure(file: &[u8], kind: Kind, flat: &[u32]) -> Result<Outline, Refusal>
     ensures { answer_of result ≡ measure_of kind file.now flat.now }
 {
-    let stack = Stack::read(file, kind)?;
+    let mut stack = Stack::new();
+    stack.refill(file, kind)?;
     measure_stack(kind, stack.pieces(), flat)
 }
 

@@ -69,6 +69,10 @@ module _ {kind : Kind} {limit g0 : ℕ} {z : Sizes} {hs ws gs : List ℕ} {best 
   pub too_wide : (last : Bool) (b : ℕ) → (best.width.0 ≤ b) × (b ≤ best.width.0 → best.height.0 ≤ rest.height.0) → b ≤ rest.width.0 + z.widest.0 → layout_in best ≡ tried kind last limit g0 hs ws gs best rest
   too_wide last b from h = sym (skip_widest (may_stand kind) limit g0 last (components_in hs ws gs) (layout_in rest) (length hs) (layout_in best) a.fair b from.0 from.1 (omega (arith, a.widest_is)))
 
+  -- Wider than the best layout.
+  pub wider : (last : Bool) → best.width.0 < rest.width.0 + z.widest.0 → layout_in best ≡ tried kind last limit g0 hs ws gs best rest
+  wider last h = too_wide last (best.width.0 + 1) (omega arith, λ under. absurd (omega arith)) (omega arith)
+
   rest_none : (last : Bool) → none ≤ rest.width.0 → layout_in best ≡ tried kind last limit g0 hs ws gs best rest
   rest_none last h = sym (skip_rest (groups kind) limit g0 last (components_in hs ws gs) (layout_in rest) (length hs) (layout_in best) a.fair h)
 

@@ -3,7 +3,7 @@
 
 ghost use Rattle.std.specs.Prelude.{true, ◌≡◌, ◌+◌, ◌-◌, ◌*◌, ◌≤◌, ◌<◌, ◌^◌, max, length, get_or, take, drop, eqb, Bool};
 ghost use Rattle.std.specs.Option.{unwrap_or};
-ghost use Rattle.terms.specs.Numbers.{most_size, most_limit};
+ghost use Rattle.terms.specs.Numbers.{most_apart, most_size, most_limit};
 ghost use Rattle.terms.specs.declared.Kind.TheVariants.{Apart, Nested};
 ghost use Rattle.terms.specs.Pieces.{heights_in, seams_in, stack_in, columns};
 ghost use Rattle.terms.specs.Seams.{gap_at};
@@ -56,13 +56,14 @@ pub const LISTED: usize = MOST_APART + 1;
 
 // The layout with a group that ends behind `end` components in front of the rest, if it is better than the best so far.
 fn improved(group: Outline, end: usize, best: Entry, rest: &Entry) -> Option<Entry>
-    requires { group.width.0 + rest.now.width.0 < 2 ^ 32 }
+    requires wide { group.width.0 + rest.now.width.0 < 2 ^ 32 }
+    requires few { end ≤ most_apart }
     ensures { layout_in (unwrap_or result best) ≡ choice (in_front group rest.now end) (layout_in best) }
 {
     let layout = Entry {
         width: Slices(group.width.0 + rest.width.0),
         height: group.height.max(rest.height),
-        end,
+        end: end as u32,
     };
     layout.is_better(best).then_some(layout)
 }
@@ -118,15 +119,15 @@ pub fn sizes_of(stack: &[Piece]) -> Sizes
     sizes
 }
 
-// A group without a fold in front of the rest. Whether it is too wide to improve the best layout is asked first, as most are; in
-// front of a rest of NONE every group is.
+// A group without a fold in front of the rest. Whether it is wider than the best layout is asked first, as most are; in front of
+// a rest of NONE every group is. One as wide is compared as a whole: to look at the rest's height for it took longer.
 fn try_flat(ask: Asked, sizes: Sizes, stack: &[Piece], best: Entry, rest: &Entry) -> Option<Entry>
     requires group_asks { columns stack.now (GroupAsks Apart ask.limit.0 ask.before.0 sizes) best rest.now }
     requires free { unbarred (stack_in stack.now) ≡ true }
     ensures { (last : Bool) → layout_in (unwrap_or result best)
         ≡ columns stack.now (tried Apart last ask.limit.0 ask.before.0) best rest.now }
 {
-    if too_wide(best, rest).0 <= rest.width.0 + sizes.widest.0 {
+    if best.width.0 < rest.width.0 + sizes.widest.0 {
         return None;
     }
     let height = sizes.flat_height(ask.before, stack);
@@ -333,7 +334,7 @@ fn best_from(
         stack: &stack[i..],
         later: &plan[next..],
     };
-    let bound = left.likely_bound(plan[next].end, table, row);
+    let bound = left.likely_bound(plan[next].end as usize, table, row);
     left.first_group(bound, table, row)
 }
 

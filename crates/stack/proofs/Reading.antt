@@ -18,8 +18,8 @@ use Rattle.terms.proofs.Pieces.{heights_packed, widths_packed, seams_packed, unp
 use Rattle.std.proofs.lemmas.List.{length-map}
 use Rattle.terms.proofs.Answers.{counted, uncounted, went_on, result_same, most_256}
 use Rattle.stack.specs.File.{components_of, check_of}
-use Rattle.stack.specs.Calls.{read_of, read_into, least_length, Read, pieces_of}
-use Rattle.stack.specs.Inner.{Pieced, column_into, Fillable, Filled}
+use Rattle.stack.specs.Calls.{read_of, read_into, least_length, Read, pieces_of, refilled}
+use Rattle.stack.specs.Inner.{mapped, Pieced, column_into, Fillable, Filled}
 use Rattle.stack.proofs.Valid.{Valid, valid}
 use Rattle.stack.proofs.Columns.{counts, column-map, mark_fits}
 
@@ -84,8 +84,23 @@ module _ (kind : Kind) (file : List ℕ) (room : List Piece) (h : length room �
       go (refusal k) m = refl
       go (result cs) m = rw (h, le-ltb 256 (length cs) (m cs refl))
 
-  pub no_pieces : {answer : Answer ℕ} {room' : List Piece} → Pieced kind file room answer room' → (k : ℕ) → answer ≡ refusal k → refusal k ≡ pieces_of kind file
-  no_pieces d k e = rw (uncounted (check_of kind file) k (rw (← roomy) (sym d.answers ∙ e)))
+  module _ {answer : Answer ℕ} {room' : List Piece} (d : Pieced kind file room answer room') (k : ℕ) (e : answer ≡ refusal k) where
+    no_file : check_of kind file ≡ refusal k
+    no_file = uncounted (check_of kind file) k (rw (← roomy) (sym d.answers ∙ e))
+
+    pub no_pieces : refusal k ≡ pieces_of kind file
+    no_pieces = rw no_file
+
+    pub room_kept : room' ≡ room
+    room_kept = rw (roomy, no_file) at d.pieces_hold
+
+-- Held after reading in place of what was held, where nothing was refused.
+pub refilled_is : (a : Answer (List Piece)) (old : List Piece) {new : List Piece} {r : Answer (Unit {0})} → r ≡ mapped (λ pieces. tt) a → new ≡ refilled a old → r ≡ result tt → result new ≡ a
+refilled_is (refusal k) old e n w =
+    let u : ◌≡◌ {A = Answer (Unit {0})} (refusal k) (result tt) = sym e ∙ w in
+    let z : ◌≡◌ {A = ℕ} 0 1 = cc in
+    absurd (omega arith)
+refilled_is (result pieces) old e n w = ap result n
 
 -- A stack that was read, and the components that it stands for.
 pub record Held (kind : Kind) (file : List ℕ) (s : List Piece) : Type 0 where

@@ -23,6 +23,11 @@ read_into (result cs) part old = map part cs ++ drop (length cs) old
 abbrev pub pieces_of : Kind → List ℕ → Answer (List Piece)
 pieces_of kind file = and_then (check_of kind file) (λ cs. result (map piece_of cs))
 
+-- The pieces that are held after a refusal, and after the file's pieces were read in place of the old ones.
+abbrev pub refilled : Answer (List Piece) → List Piece → List Piece
+refilled (refusal k) old = old
+refilled (result pieces) old = pieces
+
 -- The length of the shortest of four lists.
 abbrev pub least_length : List ℕ → List ℕ → List ℕ → List ℕ → ℕ
 least_length heights widths gaps marks = min (min (length heights) (length widths)) (min (length gaps) (length marks))

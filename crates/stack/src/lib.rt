@@ -1,7 +1,7 @@
 // Stack files: the check, the reading and the lookup by component number.
 #![tactic(auto)]
 
-ghost use Rattle.std.specs.Prelude.{◌≡◌, ◌+◌, ◌*◌, ◌≤◌, ◌<◌, ℕ, List, length, take, IfOk, IfSome};
+ghost use Rattle.std.specs.Prelude.{◌≡◌, ◌+◌, ◌*◌, ◌≤◌, ◌<◌, ℕ, List, [], length, take, IfOk, IfSome};
 ghost use Rattle.terms.specs.Numbers.{most_apart};
 ghost use Rattle.terms.specs.Answer.{answer_of};
 ghost use Rattle.terms.specs.declared.Component.{Component};
@@ -10,7 +10,7 @@ ghost use Rattle.terms.specs.declared.Piece.{Piece};
 ghost use Rattle.terms.specs.Pieces.{piece_of};
 ghost use Rattle.stack.specs.File.{word_at, version_of, bytes_each, component_from, component_at, header_of, check_of};
 ghost use Rattle.stack.specs.Versions.{number_in, version_from};
-ghost use Rattle.stack.specs.Calls.{Read, place_at, place_of, lookup_of, pieces_of, least_length};
+ghost use Rattle.stack.specs.Calls.{Read, place_at, place_of, lookup_of, pieces_of, refilled, least_length};
 ghost use Rattle.stack.specs.Inner.{mapped, words_of, Pieced, Fillable, Filled, column_into};
 
 use std::marker::Model;
@@ -203,7 +203,9 @@ fn all_stand<R: Rule, L: Components>(list: &L) -> bool
     requires { L.count list.now ≤ most_apart }
     ensures { result ≡ every R.rule (tabulate (L.at list.now) (L.count list.now)) }
 {
-    let n = list.len();
+    // No list is longer. A position that has reached as many stays where it is: where the compiler sees that none does so before
+    // the end, it need not ask at each step.
+    let n = list.len().min(MOST_APART);
     let mut p = Position::first();
     // By positions, as document 01 asks: one moves on by a component and becomes the next.
     while p.before < n {
@@ -283,13 +285,33 @@ pub fn read_pieces(file: &[u8], kind: Kind, room: &mut [Piece]) -> Result<usize,
 }
 
 impl Stack {
+    // No pieces.
+    pub fn new() -> Stack
+        ensures { result ≡ [] }
+    {
+        Stack {
+            room: [Piece::EMPTY; MOST_APART],
+            n: 0,
+        }
+    }
+
+    // Reads in a call of the kind, in place of what was held. The room stays where it is: a stack that is handed on is copied.
+    pub fn refill(&mut self, file: &[u8], kind: Kind) -> Result<(), Refusal>
+        ensures answers { answer_of result ≡ mapped (λ pieces. tt) (pieces_of kind file.now) }
+        ensures held { self.new ≡ refilled (pieces_of kind file.now) self.old }
+    {
+        let n = read_pieces(file, kind, &mut self.room)?;
+        self.n = n;
+        Ok(())
+    }
+
     // Reads in a call of the kind.
     pub fn read(file: &[u8], kind: Kind) -> Result<Stack, Refusal>
         ensures { answer_of result ≡ pieces_of kind file.now }
     {
-        let mut room = [Piece::EMPTY; MOST_APART];
-        let n = read_pieces(file, kind, &mut room)?;
-        Ok(Stack { room, n })
+        let mut stack = Stack::new();
+        stack.refill(file, kind)?;
+        Ok(stack)
     }
 
     pub fn pieces(&self) -> &[Piece]

@@ -420,13 +420,13 @@ fn bad_write_cases(out: &mut impl Write) -> io::Result<()> {
     write_case(out, "last mark 1 written", end_mark, 3)
 }
 
-// As many components as there are ones; gaps and marks are zeros as long.
-fn size_case(out: &mut impl Write, label: &str, ones: &[u16], zeros: &[u16]) -> io::Result<()> {
+// As many components as there are ones; gaps and marks are as in the other list.
+fn size_case(out: &mut impl Write, label: &str, ones: &[u16], seams: &[u16]) -> io::Result<()> {
     let lists = Lists {
         heights: ones,
         widths: ones,
-        gaps: zeros,
-        marks: zeros,
+        gaps: seams,
+        marks: seams,
     };
     write_case(out, label, lists, 2100)
 }
@@ -435,7 +435,8 @@ fn write_size_cases(out: &mut impl Write) -> io::Result<()> {
     let more = [1u16; 257];
     size_case(out, "none written", &[], &[])?;
     size_case(out, "256 written", &more[..256], &[0; 256])?;
-    size_case(out, "257 written", &more, &[0; 257])
+    // The stack's size comes before its last gap and mark.
+    size_case(out, "257 written", &more, &more)
 }
 
 // A file read and written again: of either version a file of version 2.

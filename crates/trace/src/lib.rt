@@ -59,7 +59,7 @@ fn first_group<'a>(stack: &'a [Piece], plan: &[Entry]) -> &'a [Piece]
     ensures value { result.now ≡ take (get_or (plan_ends plan.now) 0 0) stack.now }
     ensures count { (length result.now ≡ get_or (plan_ends plan.now) 0 0) × (0 < length result.now) × (length result.now ≤ length stack.now) }
 {
-    &stack[..plan[0].end]
+    &stack[..plan[0].end as usize]
 }
 
 // What the first k components may take of the width.

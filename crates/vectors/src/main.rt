@@ -6,7 +6,6 @@
 
 use folding::Outline;
 use stack::Version;
-use std::alloc::{AllocError, Global};
 use std::io::{self, BufWriter, Read, Write};
 use terms::{Kind, LEAST_WORK, MOST_LIMIT, Refusal, Rows, Slices};
 
@@ -17,6 +16,12 @@ const MOST_READ: u64 = 65536;
 const MOST: usize = 12;
 
 const OUTLINES: usize = 32;
+
+// The bytes of a stack file of so many components.
+const MOST_BYTES: usize = 7 + 8 * MOST;
+
+// A number that has reached this takes no more digits.
+const MOST_READ_ON: u32 = 100000000;
 
 // What was compared, and what was not as listed.
 #[derive(Clone, Copy, Debug, Default, PartialEq, Eq)]
@@ -34,20 +39,6 @@ impl Tally {
     }
 }
 
-// What a line lists of a kind: the table, and the smallest area, which stands on some lines only.
-#[derive(Drop)]
-struct Wanted {
-    table: Vec<Outline>,
-    smallest: Option<Outline>,
-}
-
-#[derive(Drop)]
-struct Line {
-    file: Vec<u8>,
-    apart: Wanted,
-    nested: Wanted,
-}
-
 // What a folding is asked for.
 #[derive(Clone, Copy, Debug, PartialEq, Eq)]
 enum Goal {
@@ -56,17 +47,26 @@ enum Goal {
     SmallestArea,
 }
 
-// A file of at most MOST components, how it is folded, and the table that is listed for that.
+// A file of at most MOST components, how it is folded, and the numbers of the table that is listed for that.
 #[derive(Clone, Copy, Debug, PartialEq, Eq)]
 struct Stack<'a> {
     file: &'a [u8],
     kind: Kind,
-    table: &'a [Outline],
+    table: &'a [u32],
+}
+
+fn outline(pair: &[u32; 2]) -> Outline {
+    let [width, height] = *pair;
+    Outline {
+        width: Slices(width),
+        height: Rows(height),
+    }
 }
 
 impl Stack<'_> {
-    fn fold(self, goal: Goal, placements: &mut [u32]) -> Result<Outline, Refusal> {
-        let mut work = [7u32; LEAST_WORK];
+    // With every number of the work buffer alike before.
+    fn fold(self, goal: Goal, placements: &mut [u32], before: u32) -> Result<Outline, Refusal> {
+        let mut work = [before; LEAST_WORK];
         match goal {
             Goal::ToHeight(limit) => {
                 fold::to_height(self.file, self.kind, limit, placements, &mut work)
@@ -83,132 +83,144 @@ impl Stack<'_> {
     // Whether the folding has the outline, and measuring it gives the same.
     fn folds(self, goal: Goal, outline: Outline) -> bool {
         let mut placements = [4000000000u32; 3 * MOST];
-        let answer = self.fold(goal, &mut placements);
+        let answer = self.fold(goal, &mut placements, 7);
         answer == Ok(outline) && measure::measure(self.file, self.kind, &placements) == Ok(outline)
     }
 
     fn has_no_folding(self, goal: Goal) -> bool {
-        self.fold(goal, &mut [0; 3 * MOST]) == Err(Refusal::Unmeetable)
+        self.fold(goal, &mut [0; 3 * MOST], 0) == Err(Refusal::Unmeetable)
     }
 
     fn has_table(self) -> bool {
-        let mut pairs = [[0u32; 2]; OUTLINES];
+        let mut pairs = [0u32; 2 * OUTLINES];
         let mut work = [9u32; LEAST_WORK];
-        let answer = fold_table::table(self.file, self.kind, pairs.as_flattened_mut(), &mut work);
-        let mut found = pairs.iter().zip(self.table);
-        answer == Ok(self.table.len()) && found.all(|(pair, o)| *pair == [o.width.0, o.height.0])
+        let answer = fold_table::table(self.file, self.kind, &mut pairs, &mut work);
+        answer == Ok(self.table.len() / 2) && pairs.starts_with(self.table)
     }
 
     // The line of smallest area; of equals the first, which is the narrowest.
     fn has_smallest_of_table(self) -> bool {
-        let smallest = self
-            .table
+        let (pairs, _) = self.table.as_chunks::<2>();
+        let smallest = pairs
             .iter()
-            .min_by_key(|o| best::product(o.width.0, o.height.0));
-        smallest.is_some_and(|o| self.folds(Goal::SmallestArea, *o))
+            .min_by_key(|[width, height]| best::product(*width, *height));
+        smallest.is_some_and(|pair| self.folds(Goal::SmallestArea, outline(pair)))
     }
 
-    // Each outline at its own sizes, and at the greatest limits below the next one's width and the height of the one before.
+    // An outline of the table, at its own sizes and at the greatest limits that it is still the best for.
+    fn outline_case(self, pair: &[u32; 2], height: u32, width: u32, tally: &mut Tally) {
+        let o = outline(pair);
+        tally.count(self.folds(Goal::ToHeight(o.height), o));
+        tally.count(self.folds(Goal::ToHeight(Rows(height)), o));
+        tally.count(self.folds(Goal::ToWidth(o.width), o));
+        tally.count(self.folds(Goal::ToWidth(Slices(width)), o));
+    }
+
+    // Up to below the height of the outline before, and below the width of the next one.
     fn outline_cases(self, tally: &mut Tally) {
-        for outline in self.table {
-            tally.count(self.folds(Goal::ToHeight(outline.height), *outline));
-            tally.count(self.folds(Goal::ToWidth(outline.width), *outline));
-        }
-        for [slim, low] in self.table.array_windows::<2>() {
-            let height = Rows(slim.height.0.saturating_sub(1));
-            let width = Slices(low.width.0.saturating_sub(1));
-            tally.count(self.folds(Goal::ToHeight(height), *low));
-            tally.count(self.folds(Goal::ToWidth(width), *slim));
+        let (pairs, _) = self.table.as_chunks::<2>();
+        let mut next_widths = self.table.iter().skip(2).step_by(2);
+        let mut height = MOST_LIMIT;
+        for pair in pairs {
+            let width = match next_widths.next() {
+                Some(next) => next.saturating_sub(1),
+                None => MOST_LIMIT,
+            };
+            self.outline_case(pair, height, width, tally);
+            height = pair[1].saturating_sub(1);
         }
     }
 
-    // The table's ends at the greatest limit of all. Below the narrowest and below the lowest there is none.
-    fn end_cases(self, tally: &mut Tally) {
+    // Below the narrowest and below the lowest there is none.
+    fn below_cases(self, tally: &mut Tally) {
         if let (Some(narrowest), Some(lowest)) = (self.table.first(), self.table.last()) {
-            tally.count(self.folds(Goal::ToHeight(Rows(MOST_LIMIT)), *narrowest));
-            tally.count(self.folds(Goal::ToWidth(Slices(MOST_LIMIT)), *lowest));
-            let width = narrowest.width.0;
-            let height = lowest.height.0;
-            if 1 < width {
-                tally.count(self.has_no_folding(Goal::ToWidth(Slices(width - 1))));
+            let width = narrowest.saturating_sub(1);
+            let height = lowest.saturating_sub(1);
+            if 0 < width {
+                tally.count(self.has_no_folding(Goal::ToWidth(Slices(width))));
             }
-            if 1 < height {
-                tally.count(self.has_no_folding(Goal::ToHeight(Rows(height - 1))));
+            if 0 < height {
+                tally.count(self.has_no_folding(Goal::ToHeight(Rows(height))));
             }
         }
     }
 }
 
-// A field of a line, from 0 on. Only some lines have those for the smallest area.
-fn field(text: &str, k: usize) -> Option<&str> {
-    text.split('|').nth(k)
+// A field of a line, from 0 on. One that is not there is empty.
+fn field(line: &[u8], k: usize) -> &[u8] {
+    line.split(|b| *b == b'|').nth(k).unwrap_or_default()
 }
 
-// A width and a height.
-fn outline(text: &str) -> Option<Outline> {
-    let (width, height) = text.trim().split_once(' ')?;
-    Some(Outline {
-        width: Slices(width.parse().ok()?),
-        height: Rows(height.parse().ok()?),
-    })
-}
-
-impl Wanted {
-    fn read(alloc: Global, table: Option<&str>, area: Option<&str>) -> Result<Wanted, AllocError> {
-        let outlines = table.unwrap_or_default().split(',');
-        Ok(Wanted {
-            table: outlines.filter_map(outline).collect(alloc)?,
-            smallest: area.and_then(outline),
-        })
-    }
-}
-
-// The stack file of a line, its numbers in the order in which they stand: the writer makes no version 1. Where the line has a
-// field for the smallest area, each component has a mark.
-fn listed_file(alloc: Global, text: &str) -> Result<Vec<u8>, AllocError> {
-    let version = match field(text, 3) {
-        None => Version::First,
-        Some(_) => Version::Second,
-    };
-    let components = field(text, 0).unwrap_or_default();
-    let count = u16::try_from(components.split_whitespace().count()).unwrap_or(0);
-    let mut file = vec![in alloc; b'S', b'T', b'K']?;
-    file.extend_from_slice(&u16::from(version).to_le_bytes())?;
-    file.extend_from_slice(&count.to_le_bytes())?;
-    for component in components.split_whitespace() {
-        for size in component.split('/') {
-            let size: u16 = size.parse().unwrap_or(0);
-            file.extend_from_slice(&size.to_le_bytes())?;
+// The number that some digits say.
+fn number(digits: &[u8]) -> u32 {
+    let mut n = 0;
+    for digit in digits {
+        if n < MOST_READ_ON {
+            n = 10 * n + u32::from(digit.saturating_sub(b'0'));
         }
     }
-    Ok(file)
+    n
 }
 
-impl Line {
-    fn read(alloc: Global, text: &str) -> Result<Line, AllocError> {
-        Ok(Line {
-            file: listed_file(alloc, text)?,
-            apart: Wanted::read(alloc, field(text, 1), field(text, 3))?,
-            nested: Wanted::read(alloc, field(text, 2), field(text, 4))?,
-        })
+// All numbers of a text, whatever stands between them, as far as there is room.
+fn numbers<'a>(text: &[u8], room: &'a mut [u32]) -> &'a [u32] {
+    let runs = text.split(|b| !b.is_ascii_digit());
+    let mut n: usize = 0;
+    for (place, run) in room.iter_mut().zip(runs.filter(|run| !run.is_empty())) {
+        *place = number(run);
+        n = n.saturating_add(1);
+    }
+    room.get(..n).unwrap_or_default()
+}
+
+// Lines with marks have a field for the smallest area.
+fn version(line: &[u8]) -> Version {
+    if field(line, 3).is_empty() {
+        Version::First
+    } else {
+        Version::Second
     }
 }
 
-fn kind_cases(stack: Stack, smallest: Option<Outline>, tally: &mut Tally) {
+// The stack file of a line, its numbers in the order in which they stand: the writer makes no version 1.
+fn listed_file<'a>(line: &[u8], file: &'a mut [u8; MOST_BYTES]) -> &'a [u8] {
+    let mut room = [0u32; 4 * MOST];
+    let sizes = numbers(field(line, 0), &mut room);
+    let version = version(line);
+    let count = sizes.len() / (version.bytes_each() / 2);
+    let header = [u16::from(version), u16::try_from(count).unwrap_or(0)];
+    file[..3].copy_from_slice(b"STK");
+    let (words, _) = file[3..].as_chunks_mut::<2>();
+    let listed = sizes.iter().map(|size| (size % 65536) as u16);
+    for (place, word) in words.iter_mut().zip(header.into_iter().chain(listed)) {
+        *place = word.to_le_bytes();
+    }
+    file.get(..7 + 2 * sizes.len()).unwrap_or_default()
+}
+
+// The smallest area, where the line lists it.
+fn area_case(stack: Stack, area: &[u8], tally: &mut Tally) {
+    let mut room = [0u32; 2];
+    let (pairs, _) = numbers(area, &mut room).as_chunks::<2>();
+    for pair in pairs {
+        tally.count(stack.folds(Goal::SmallestArea, outline(pair)));
+    }
+}
+
+fn kind_cases(file: &[u8], kind: Kind, pairs: &[u8], area: &[u8], tally: &mut Tally) {
+    let mut room = [0u32; 2 * OUTLINES];
+    let table = numbers(pairs, &mut room);
+    let stack = Stack { file, kind, table };
     tally.count(stack.has_table());
     tally.count(stack.has_smallest_of_table());
     stack.outline_cases(tally);
-    stack.end_cases(tally);
-    if let Some(outline) = smallest {
-        tally.count(stack.folds(Goal::SmallestArea, outline));
-    }
+    stack.below_cases(tally);
+    area_case(stack, area, tally);
 }
 
-fn file_cases(file: &[u8], line: &Line, tally: &mut Tally) {
-    for (kind, wanted) in [(Kind::Apart, &line.apart), (Kind::Nested, &line.nested)] {
-        let table = &wanted.table;
-        kind_cases(Stack { file, kind, table }, wanted.smallest, tally);
-    }
+fn file_cases(file: &[u8], line: &[u8], tally: &mut Tally) {
+    kind_cases(file, Kind::Apart, field(line, 1), field(line, 3), tally);
+    kind_cases(file, Kind::Nested, field(line, 2), field(line, 4), tally);
 }
 
 // The file that the writer makes of what reading gives.
@@ -222,22 +234,26 @@ fn written<'a>(file: &[u8], out: &'a mut [u8]) -> Option<&'a [u8]> {
     out.get(..end)
 }
 
-fn line_cases(line: &Line, tally: &mut Tally) {
-    file_cases(&line.file, line, tally);
-    match written(&line.file, &mut [0; 7 + 8 * MOST]) {
-        Some(file) => file_cases(file, line, tally),
-        None => tally.count(false),
-    }
+// Where there is no such file, its cases are those of an empty one.
+fn line_cases(line: &[u8], tally: &mut Tally) {
+    let mut room = [0; MOST_BYTES];
+    let file = listed_file(line, &mut room);
+    file_cases(file, line, tally);
+    let mut again = [0; MOST_BYTES];
+    file_cases(written(file, &mut again).unwrap_or_default(), line, tally);
 }
 
 fn main(rt: HostRuntime) -> io::Result<()> {
-    let text = io::read_to_string(rt.alloc(), rt.reader().take(MOST_READ))?;
-    let mut tally = Tally::default();
-    for line in text.lines() {
-        line_cases(&Line::read(rt.alloc(), line)?, &mut tally);
-    }
     let mut out = BufWriter::new(rt.alloc(), io::writer(&rt))?;
-    writeln!(out, "stacks {}", text.lines().count())?;
+    let mut text = Vec::new(rt.alloc());
+    rt.reader().take(MOST_READ).read_to_end(&mut text)?;
+    let mut tally = Tally::default();
+    let mut stacks: u32 = 0;
+    for line in text.split_inclusive(|b| *b == b'\n') {
+        line_cases(line.strip_suffix(b"\n").unwrap_or(line), &mut tally);
+        stacks = stacks.saturating_add(1);
+    }
+    writeln!(out, "stacks {stacks}")?;
     writeln!(out, "compared {}", tally.compared)?;
     writeln!(out, "not as listed {}", tally.wrong)?;
     out.flush()

@@ -10,7 +10,7 @@ returns-then-out-n c =
 pub returns-then-n-waiting : goal.returns-then-n-waiting
 returns-then-n-waiting c =
     all_listed _ _ (stacked_plan c.requires) c.args.out.now _ c.gather-n.ensures.all _ c.if-out-n.false
-    (rw (c.copy_from_slice.ensures.after, c.gather-n.ensures.front (omega arith)))
+    (rw (c.copy.ensures, c.gather-n.ensures.front (omega arith)))
 
 pub returns-else-n-waiting : goal.returns-else-n-waiting
 returns-else-n-waiting c =

@@ -1,15 +1,16 @@
 use mathlib.Core.Path.{sym}
 use Rattle.std.proofs.Common.{rules}
 use Rattle.terms.proofs.Pieces.{heights_length}
-use Rattle.plan.proofs.Trying.{flat_is, wide_4000, too_wide, flat_high, flat_tried}
+use Rattle.plan.proofs.Trying.{flat_is, wide_4000, wider, flat_high, flat_tried}
 use native.Mathlib.Omega.{arith}
 use Rattle.plan.proofs.try_flat.Goals as goal
 
 pub overflow_add-rest : goal.overflow_add-rest
 overflow_add-rest c = omega (arith, wide_4000 c.requires.group_asks, c.requires.group_asks.rest_width)
 
-pub returns-then-too_wide-rest : goal.returns-then-too_wide-rest
-returns-then-too_wide-rest c = λ last. too_wide c.requires.group_asks last _ c.too_wide.ensures.width_le_result (search rules)
+pub returns-then-best-rest : goal.returns-then-best-rest
+returns-then-best-rest c =
+    λ last. wider c.requires.group_asks last (search rules)
 
 pub returns-then-lt : goal.returns-then-lt
 returns-then-lt c =

@@ -23,6 +23,8 @@ improved-requires c = omega (
   c.min.ensures,
   wide_4000 c.requires.group_asks,
   c.requires.group_asks.rest_width,
+  c.requires.group_asks.lists.few,
+  heights_length c.args.stack.now,
 )
 
 pub returns-clause-result_value : goal.returns-clause-result_value
