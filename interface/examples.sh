@@ -7,6 +7,7 @@ source "$(dirname "${BASH_SOURCE[0]}")/library.sh"
 # A caller without a C library brings memset alone.
 needs=$(nm -u "$STACK_FOLDS_LIB/libstack_folds.a" | awk '$1 == "U" { print $2 }' | sort -u)
 if [ "$needs" != memset ]; then
+    # shellcheck disable=SC2086
     echo "the library needs from outside:" $needs >&2
     exit 1
 fi

@@ -20,7 +20,7 @@ use terms::{
     Slices,
 };
 
-// A stack that was read: the pieces of a file that the check accepts.
+// The pieces of a stack: none, or those of a file that the check accepts.
 #[derive(Drop)]
 pub struct Stack {
     room: [Piece; MOST_APART],
@@ -270,7 +270,7 @@ fn fill_pieces(file: &StackFile<'_>, room: &mut [Piece])
     }
 }
 
-// The pieces into a list that is lent, in a call of the kind. `Stack::read` is this with a list that is long enough: here alone
+// The pieces into a list that is lent, in a call of the kind. `Stack::refill` is this with a list that is long enough: here alone
 // the list may be too short.
 pub fn read_pieces(file: &[u8], kind: Kind, room: &mut [Piece]) -> Result<usize, Refusal>
     ensures { Pieced kind file.now room.old (answer_of result) room.new }
@@ -295,7 +295,8 @@ impl Stack {
         }
     }
 
-    // Reads in a call of the kind, in place of what was held. The room stays where it is: a stack that is handed on is copied.
+    // Reads in a call of the kind, in place of what was held; a refusal leaves that. The room stays where it is: a stack that is
+    // handed out is copied.
     pub fn refill(&mut self, file: &[u8], kind: Kind) -> Result<(), Refusal>
         ensures answers { answer_of result ≡ mapped (λ pieces. tt) (pieces_of kind file.now) }
         ensures held { self.new ≡ refilled (pieces_of kind file.now) self.old }

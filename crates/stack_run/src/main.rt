@@ -421,12 +421,12 @@ fn bad_write_cases(out: &mut impl Write) -> io::Result<()> {
 }
 
 // As many components as there are ones; gaps and marks are as in the other list.
-fn size_case(out: &mut impl Write, label: &str, ones: &[u16], seams: &[u16]) -> io::Result<()> {
+fn size_case(out: &mut impl Write, label: &str, ones: &[u16], behind: &[u16]) -> io::Result<()> {
     let lists = Lists {
         heights: ones,
         widths: ones,
-        gaps: seams,
-        marks: seams,
+        gaps: behind,
+        marks: behind,
     };
     write_case(out, label, lists, 2100)
 }
