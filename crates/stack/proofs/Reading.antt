@@ -9,12 +9,14 @@ use borrow.Author.Tests.{le-ltb}
 use Rattle.terms.specs.declared.Component.{Component}
 use Rattle.terms.specs.declared.Kind.{Kind}
 use Rattle.terms.specs.declared.Kind.TheVariants.{Apart}
-use Rattle.terms.specs.Answer.{Answer, refusal, result, refuse_if, and_then}
+use Rattle.terms.specs.declared.Refusal.{Refusal}
+use Rattle.terms.specs.Answer.{Answer, refusal, result, refuse_if, and_then, answer_of}
 use Rattle.terms.specs.Component.{count_of}
 use Rattle.terms.specs.declared.Piece.{Piece}
 use Rattle.terms.specs.Pieces.{piece_of, stack_in, heights_in, widths_in, seams_in}
 use Rattle.terms.proofs.Lists.{heights_of, widths_of, seams_of, all_marked}
 use Rattle.terms.proofs.Pieces.{heights_packed, widths_packed, seams_packed, unpacked}
+use Rattle.std.proofs.Common.{Result, Ok}
 use Rattle.std.proofs.lemmas.List.{length-map}
 use Rattle.terms.proofs.Answers.{counted, uncounted, went_on, result_same, most_256}
 use Rattle.stack.specs.File.{components_of, check_of}
@@ -94,13 +96,13 @@ module _ (kind : Kind) (file : List ℕ) (room : List Piece) (h : length room �
     pub room_kept : room' ≡ room
     room_kept = rw (roomy, no_file) at d.pieces_hold
 
--- Held after reading in place of what was held, where nothing was refused.
-pub refilled_is : (a : Answer (List Piece)) (old : List Piece) {new : List Piece} {r : Answer (Unit {0})} → r ≡ mapped (λ pieces. tt) a → new ≡ refilled a old → r ≡ result tt → result new ≡ a
-refilled_is (refusal k) old e n w =
-    let u : ◌≡◌ {A = Answer (Unit {0})} (refusal k) (result tt) = sym e ∙ w in
-    let z : ◌≡◌ {A = ℕ} 0 1 = cc in
-    absurd (omega arith)
-refilled_is (result pieces) old e n w = ap result n
+-- What is held after reading in place of what was held, where nothing was refused.
+pub refilled_is : {a : Answer (List Piece)} (old : List Piece) {new : List Piece} {r : Result (Unit {0}) Refusal} → answer_of r ≡ mapped (λ pieces. tt) a → new ≡ refilled a old → r ≡ Ok tt → result new ≡ a
+refilled_is {a} old {new} e n w = go a (sym (ap answer_of w) ∙ e) n
+  where
+    go : (a : Answer (List Piece)) → result (tt {0}) ≡ mapped (λ pieces. tt {0}) a → new ≡ refilled a old → result new ≡ a
+    go (refusal k) e n = let z : ◌≡◌ {A = ℕ} 0 1 = cc in absurd (omega arith)
+    go (result pieces) e n = ap result n
 
 -- A stack that was read, and the components that it stands for.
 pub record Held (kind : Kind) (file : List ℕ) (s : List Piece) : Type 0 where
